@@ -1,0 +1,9 @@
+pub mod Bools
+pub mod Below
+pub mod Walks
+pub mod Ground
+pub mod Rule
+pub mod Exists
+pub mod Orders
+pub mod Firsts
+pub mod Meaning
