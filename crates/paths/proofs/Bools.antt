@@ -35,6 +35,10 @@ pub T-and : (a b : Bool) → T (a && b) → T a × T b
 T-and true b h = (tt, h)
 T-and false b h = absurd h
 
+pub T-not-not : (b : Bool) → T (not (not b)) → T b
+T-not-not true h = tt
+T-not-not false h = h
+
 pub T-or : (a b : Bool) → T (a || b) → T a ⊎ T b
 T-or true b h = inl tt
 T-or false b h = inr h

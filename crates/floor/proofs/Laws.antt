@@ -1,0 +1,179 @@
+-- The laws that callers cite: the floor is a lawful graph, a step can be taken back, and the bounds 70, 891 and 58,391,685; from coordinates and the table.
+use mathlib.Core.Path.{_≡_, refl, sym, _∙_, ap, subst}
+use mathlib.Core.Logic.{_≢_, ⊎-elim}
+use mathlib.Core.Bool.{_&&_, _||_, not}
+use mathlib.Core.List.{List}
+use Prim.Native.Nat.{ℕ, _+_, _-_, _*_, _/_, _%_, _≤_, _<_}
+use native.Mathlib.Nat.{mul-le-mul}
+use native.Mathlib.Omega.{arith}
+use lib.Arith.{digits-div, digits-mod}
+use lib.Dec.{T, eqb, leb, ltb, eqb→eq, leb→le, ltb→lt, lt→ltb, T-not}
+use lib.ListN.{getD}
+use Rattle.paths.specs.Graph.{Lawful}
+use Rattle.paths.specs.Route.{Least}
+use Rattle.paths.proofs.Bools.{T-and, T-or, and-T, eq-T}
+use Rattle.paths.proofs.Below.{every-at}
+use Rattle.paths.proofs.Meaning.{least-cost-most}
+use Rattle.floor.specs.declared.Floor.{Floor}
+use Rattle.floor.specs.declared.Place.{Place}
+use Rattle.floor.specs.Direction.{rowOf, opposite}
+use Rattle.floor.specs.Place.{greatestSide, cells, at, placeOf, cellAt, moved, corner, isOpen}
+use Rattle.floor.specs.Step.{isDirection, target, stepWeight, stepCost, leastStep, greatestStep, greatestCost, allowed, graph}
+use Rattle.floor.specs.Refusal.{HasPassed}
+use Rattle.floor.proofs.Passing.{MapFacts, facts, few-cells}
+use Rattle.floor.proofs.Rows.{direction-lt, bounds}
+use Rattle.floor.proofs.Places.{OnMap, on-map, cell-of-place, cell-lt}
+use Rattle.floor.proofs.Allowed.{Allowed, allowed-is, allowed-words, open-on-map, open-weight, open-inside}
+
+-- what the table says of direction d and of the opposite one
+record Turns (d : ℕ) : Type 0 where
+  east : rowOf d .east + rowOf (opposite d) .east ≡ 2
+  south : rowOf d .south + rowOf (opposite d) .south ≡ 2
+  below : opposite d < 8
+  kind : opposite d % 2 ≡ d % 2
+  moves : T (not (eqb (rowOf d .east) 1 && eqb (rowOf d .south) 1))
+  least : leastStep ≤ rowOf d .unit
+
+turns : (d : ℕ) → d < 8 → Turns d
+turns d h = record {
+  east = eqb→eq (rowOf d .east + rowOf (opposite d) .east) 2 (every-at (λ e. eqb (rowOf e .east + rowOf (opposite e) .east) 2) 8 tt d h);
+  south = eqb→eq (rowOf d .south + rowOf (opposite d) .south) 2 (every-at (λ e. eqb (rowOf e .south + rowOf (opposite e) .south) 2) 8 tt d h);
+  below = ltb→lt (opposite d) 8 (every-at (λ e. ltb (opposite e) 8) 8 tt d h);
+  kind = eqb→eq (opposite d % 2) (d % 2) (every-at (λ e. eqb (opposite e % 2) (e % 2)) 8 tt d h);
+  moves = every-at (λ e. not (eqb (rowOf e .east) 1 && eqb (rowOf e .south) 1)) 8 tt d h;
+  least = leb→le leastStep (rowOf d .unit) (every-at (λ e. leb leastStep (rowOf e .unit)) 8 tt d h);
+}
+
+same-place : {x y x′ y′ : ℕ} → x ≡ x′ → y ≡ y′ → at x y ≡ at x′ y′
+same-place e h = rw (e, h)
+
+-- a place of the map is the place of its cell
+place-of-cell : (f : Floor) (p : Place) → OnMap f p → placeOf f (cellAt f p) ≡ p
+place-of-cell f p o =
+    let x = digits-mod (p .row - 1) {m = f .width} {r = p .column - 1} (omega (arith, o .west, o .east)) in
+    let y = digits-div (p .row - 1) {m = f .width} {r = p .column - 1} (omega (arith, o .west, o .east)) in
+    same-place (omega (arith, x, o .west)) (omega (arith, y, o .north))
+
+moved-back : (p : Place) (d : ℕ) → d < 8 → 0 < p .column → 0 < p .row → moved (moved p d) (opposite d) ≡ p
+moved-back p d h x y = let t = turns d h in same-place (omega (arith, t .east)) (omega (arith, t .south))
+
+-- where the step leads, as a place
+module _ (f : Floor) (m : List ℕ) (v d : ℕ) (a : Allowed f m v d) where
+  abbrev below : d < 8
+  below = direction-lt f d (a .direction)
+
+  there : OnMap f (moved (placeOf f v) d)
+  there = on-map f (moved (placeOf f v) d) (open-on-map f m (moved (placeOf f v) d) (a .there))
+
+  place-of-target : placeOf f (target f v d) ≡ moved (placeOf f v) d
+  unfolding target
+  place-of-target = place-of-cell f (moved (placeOf f v) d) there
+
+  place-back : moved (placeOf f (target f v d)) (opposite d) ≡ placeOf f v
+  place-back =
+      ap (λ (p : Place). moved p (opposite d)) place-of-target
+      ∙ moved-back (placeOf f v) d below (omega arith) (omega arith)
+
+  target-back : target f (target f v d) (opposite d) ≡ v
+  unfolding target
+  target-back = ap (cellAt f) place-back ∙ cell-of-place f v
+
+  target-inside : target f v d < cells f
+  unfolding target
+  target-inside = cell-lt f (moved (placeOf f v) d) (open-on-map f m (moved (placeOf f v) d) (a .there))
+
+  target-weight : 0 < getD m (target f v d) 0
+  unfolding target
+  target-weight = open-weight f m (moved (placeOf f v) d) (a .there)
+
+  -- another cell: the column or the row differs
+  target-other : target f v d ≢ v
+  target-other e =
+      let p = sym place-of-target ∙ ap (placeOf f) e in
+      let x : v % f .width + 1 + rowOf d .east - 1 ≡ v % f .width + 1 = ap (λ (q : Place). q .column) p in
+      let y : v / f .width + 1 + rowOf d .south - 1 ≡ v / f .width + 1 = ap (λ (q : Place). q .row) p in
+      T-not (eqb (rowOf d .east) 1 && eqb (rowOf d .south) 1) (turns d below .moves) (and-T (eqb (rowOf d .east) 1) (eqb (rowOf d .south) 1) (eq-T (rowOf d .east) 1 (omega arith)) (eq-T (rowOf d .south) 1 (omega arith)))
+
+  back-direction : T (isDirection f (opposite d))
+  unfolding isDirection
+  back-direction =
+      let w = T-and (ltb d 8) (eqb (f .ways) 8 || eqb (d % 2) 0) (a .direction) in
+      and-T (ltb (opposite d) 8) _ (lt→ltb (opposite d) 8 (turns d below .below)) (rw (turns d below .kind) (w .1))
+
+  back-allowed : Allowed f m (target f v d) (opposite d)
+  back-allowed =
+      record {
+        direction = back-direction;
+        here = subst (λ (p : Place). T (isOpen f m p)) (sym place-of-target) (a .there);
+        there = subst (λ (p : Place). T (isOpen f m p)) (sym place-back) (a .here);
+        beside = λ q.
+            let s = a .beside (rw (turns d below .kind) at q) in (
+              subst (λ (p : Place). T (isOpen f m p)) (sym (corner-is place-back place-of-target)) (s .1),
+              subst (λ (p : Place). T (isOpen f m p)) (sym (corner-is place-of-target place-back)) (s .0),
+            );
+      }
+    where
+      corner-is : {p q p′ q′ : Place} → p ≡ p′ → q ≡ q′ → corner p q ≡ corner p′ q′
+      corner-is e h = cc
+
+  cost-least : leastStep ≤ stepCost m d v (target f v d)
+  unfolding stepCost stepWeight
+  cost-least = omega (arith, mul-le-mul (turns d below .least) target-weight)
+
+  cost-most : MapFacts f m → stepCost m d v (target f v d) ≤ greatestStep
+  unfolding stepCost stepWeight
+  cost-most k = mul-le-mul (bounds d below .unit) (k .weights (target f v d))
+
+module _ (f : Floor) (m : List ℕ) where
+  module _ (v d : ℕ) (t : T (allowed f m v d)) where
+    -- the cell reached is on the map, open, and another cell
+    pub reaches-map : target f v d < cells f
+    reaches-map = target-inside f m v d (allowed-is f m v d t)
+
+    pub reaches-open : 0 < getD m (target f v d) 0
+    reaches-open = target-weight f m v d (allowed-is f m v d t)
+
+    pub reaches-other : target f v d ≢ v
+    reaches-other = target-other f m v d (allowed-is f m v d t)
+
+    -- the step back is allowed, and leads back
+    pub step-back-allowed : T (allowed f m (target f v d) (opposite d))
+    step-back-allowed = allowed-words f m (target f v d) (opposite d) .1 (back-allowed f m v d (allowed-is f m v d t))
+
+    pub step-back : target f (target f v d) (opposite d) ≡ v
+    step-back = target-back f m v d (allowed-is f m v d t)
+
+    -- with four ways only even directions
+    pub four-ways-even : f .ways ≡ 4 → d % 2 ≡ 0
+    unfolding isDirection
+    four-ways-even e =
+        ⊎-elim (λ w. absurd (omega (arith, eqb→eq (f .ways) 8 w))) (λ w. eqb→eq (d % 2) 0 w)
+        (T-or (eqb (f .ways) 8) (eqb (d % 2) 0) (T-and (ltb d 8) _ (allowed-is f m v d t .direction) .1))
+
+  module _ (passed : HasPassed f m) where
+    abbrev good : MapFacts f m
+    good = facts f m passed .map
+
+    pub lawful : Lawful (graph f m) leastStep greatestStep
+    lawful = record {
+      leaves = λ u d t. open-inside f m u (allowed-is f m u d t .here);
+      enters = λ u d t. reaches-map u d t;
+      numbered = λ u d t. below f m u d (allowed-is f m u d t);
+      back = λ u d t. step-back u d t;
+      at-least = λ u d t. cost-least f m u d (allowed-is f m u d t);
+      at-most = λ u d t. cost-most f m u d (allowed-is f m u d t) good;
+      positive = omega arith;
+      costs-fit = omega (arith, few-cells good);
+      cells-fit = omega (arith, few-cells good);
+    }
+
+    -- no least cost is above the greatest cost
+    pub least-cost-bound : (s v c : ℕ) → s < cells f → Least (graph f m) s v c → c ≤ greatestCost
+    least-cost-bound s v c h l = omega (arith, least-cost-most lawful s h v c l, few-cells good)
+
+-- the numbers of 01
+greatest-step : greatestStep ≡ 891
+greatest-step = refl
+
+greatest-cost : greatestCost ≡ 58391685
+greatest-cost = refl

@@ -1,0 +1,6 @@
+pub mod Screens
+pub mod Passing
+pub mod Rows
+pub mod Places
+pub mod Allowed
+pub mod Laws

@@ -1,0 +1,4 @@
+pub mod Direction
+pub mod Place
+pub mod Step
+pub mod Refusal

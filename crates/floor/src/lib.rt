@@ -1,0 +1,101 @@
+// The floor: the value that travels beside a map's bytes, the table of directions, the step test and the refusals 1 to 4.
+// specs/ says what they mean; docs/PROMISES.md has a row for each public function.
+
+pub mod refusals; // refusals.rt: what is refused of a floor and its bytes
+pub mod steps; // steps.rt: the step test
+
+// 01: width and height are 1 to 256 each.
+pub const GREATEST_SIDE: usize = 256;
+
+// 01: 0 blocked, 1 to 9 the weight of an open cell.
+pub const GREATEST_WEIGHT: u8 = 9;
+
+// A map's width, height and ways travel together as one value. Any numbers may stand in it: `refusals` judges them.
+pub struct Floor {
+    pub width: usize,
+    pub height: usize,
+    pub ways: usize,
+}
+
+// What a straight and a diagonal step cost on a cell of weight 1: 99 / 70 is a little more than the root of 2.
+pub const STRAIGHT: u32 = 70;
+
+pub const DIAGONAL: u32 = 99;
+
+pub struct Direction {
+    pub dx: i32,
+    pub dy: i32,
+    pub unit: u32,
+}
+
+// 01's table: N, NE, E, SE, S, SW, W, NW. x grows east, y grows south.
+pub const DIRECTIONS: [Direction; 8] = [
+    Direction {
+        dx: 0,
+        dy: -1,
+        unit: STRAIGHT,
+    },
+    Direction {
+        dx: 1,
+        dy: -1,
+        unit: DIAGONAL,
+    },
+    Direction {
+        dx: 1,
+        dy: 0,
+        unit: STRAIGHT,
+    },
+    Direction {
+        dx: 1,
+        dy: 1,
+        unit: DIAGONAL,
+    },
+    Direction {
+        dx: 0,
+        dy: 1,
+        unit: STRAIGHT,
+    },
+    Direction {
+        dx: -1,
+        dy: 1,
+        unit: DIAGONAL,
+    },
+    Direction {
+        dx: -1,
+        dy: 0,
+        unit: STRAIGHT,
+    },
+    Direction {
+        dx: -1,
+        dy: -1,
+        unit: DIAGONAL,
+    },
+];
+
+// A column and a row, both counted from 1, so that 0 is off the map to the west or the north.
+pub struct Place {
+    pub column: usize,
+    pub row: usize,
+}
+
+// Why a step is not allowed: the first of these that applies.
+pub enum Reason {
+    NoSuchDirection,
+    LeftOffMap,
+    LeftBlocked,
+    LeavesMap,
+    EntersBlocked,
+    CutsCorner,
+}
+
+// Where a step leads and what it costs, or that there is none.
+pub enum Step {
+    To(usize, u32),
+    Barred(Reason),
+}
+
+// Whether an input passed the refusals that were tried, or the refusal's number and place.
+pub enum Screen {
+    Passed,
+    Refused(u32, usize),
+}

@@ -1,0 +1,80 @@
+// The refusals 1 to 4 of a floor and its bytes: 01, "Refusal numbers".
+ghost use mathlib.Core.Path.{_≡_};
+ghost use Prim.Native.Nat.{_*_};
+ghost use Rattle.floor.specs.Place.{isSide, hasSides};
+ghost use Rattle.floor.specs.Refusal.{screen, mapLines, floorLines, firstAbove};
+use crate::Floor;
+use crate::GREATEST_SIDE;
+use crate::GREATEST_WEIGHT;
+use crate::Screen;
+
+fn is_side(n: usize) -> bool
+    ensures { λ r. ⌜ r ≡ isSide n ⌝ }
+{
+    if n == 0 {
+        return false;
+    }
+    n <= GREATEST_SIDE
+}
+
+fn has_sides(f: Floor) -> bool
+    ensures { λ r. ⌜ r ≡ hasSides f ⌝ }
+{
+    if is_side(f.width) {
+        return is_side(f.height);
+    }
+    false
+}
+
+// The lowest cell whose byte is no weight, or the map's length.
+fn first_above(map: &[u8]) -> usize
+    ensures { λ r. ⌜ r ≡ firstAbove (now (map .entry)) ⌝ }
+{
+    let mut i = 0;
+    while i < map.len() {
+        if map[i] > GREATEST_WEIGHT {
+            return i;
+        }
+        i += 1;
+    }
+    i
+}
+
+// Refusals 1 to 3. The writer stops here: it does not look at ways.
+pub fn screen_map(f: Floor, map: &[u8]) -> Screen
+    ensures { λ r. ⌜ r ≡ screen (mapLines f (now (map .entry))) ⌝ }
+{
+    if has_sides(f) {
+        let width = f.width;
+        let height = f.height;
+        if map.len() != width * height {
+            return Screen::Refused(2, 0);
+        }
+        let place = first_above(map);
+        if place < map.len() {
+            return Screen::Refused(3, place);
+        }
+        return Screen::Passed;
+    }
+    Screen::Refused(1, 0)
+}
+
+// Refusals 1 to 4, which the search and the checks try first. After `Passed` the step test may be called.
+pub fn screen_floor(f: Floor, map: &[u8]) -> Screen
+    ensures { λ r. ⌜ r ≡ screen (floorLines f (now (map .entry))) ⌝ }
+{
+    let tried = screen_map(f, map);
+    match tried {
+        Screen::Refused(number, place) => Screen::Refused(number, place),
+        Screen::Passed => {
+            let ways = f.ways;
+            if ways == 4 {
+                return Screen::Passed;
+            }
+            if ways == 8 {
+                return Screen::Passed;
+            }
+            Screen::Refused(4, 0)
+        }
+    }
+}
