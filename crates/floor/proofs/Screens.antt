@@ -1,5 +1,5 @@
 -- Lines of the table of refusals, tried one after the other.
-use mathlib.Core.Path.{_≡_, refl}
+use mathlib.Core.Path.{_≡_, refl, sym, ap, _∙_}
 use mathlib.Core.Bool.{Bool, true, false, cond, not}
 use mathlib.Core.List.{List, [], _∷_, _++_}
 use Prim.Native.Nat.{ℕ}
@@ -36,3 +36,7 @@ screen-append (l ∷ ls) ks = go (l .given) (screen-append ls ks)
         → cond b (Refused (l .number) (l .place)) (screen (ls ++ ks)) ≡ andThen (cond b (Refused (l .number) (l .place)) (screen ls)) (screen ks)
     go true ih = refl
     go false ih = ih
+
+-- after the lines ls, which a call has tried, the lines ks are left
+pub screen-after : (ls ks : List Line) (tried s : Screen) → tried ≡ screen ls → tried ≡ s → screen (ls ++ ks) ≡ andThen s (screen ks)
+screen-after ls ks tried s e h = screen-append ls ks ∙ ap (λ (x : Screen). andThen x (screen ks)) (sym e ∙ h)

@@ -44,5 +44,19 @@ waysLine f = line 4 (not (eqb (f .ways) 4 || eqb (f .ways) 8)) 0
 abbrev pub floorLines : Floor → List ℕ → List Line
 floorLines f m = mapLines f m ++ (waysLine f ∷ [])
 
+-- 5 and 6: a cell is not below width × height; 7 and 8: it is blocked
+abbrev pub outsideLine : ℕ → Floor → ℕ → Line
+outsideLine n f v = line n (not (ltb v (cells f))) 0
+
+abbrev pub blockedLine : ℕ → List ℕ → ℕ → Line
+blockedLine n m v = line n (eqb (getD m v 0) 0) 0
+
+-- of a question's start and goal
+abbrev pub endsLines : Floor → List ℕ → ℕ → ℕ → List Line
+endsLines f m start goal = outsideLine 5 f start ∷ outsideLine 6 f goal ∷ blockedLine 7 m start ∷ blockedLine 8 m goal ∷ []
+
+abbrev pub questionLines : Floor → List ℕ → ℕ → ℕ → List Line
+questionLines f m start goal = floorLines f m ++ endsLines f m start goal
+
 abbrev pub HasPassed : Floor → List ℕ → Type 0
 HasPassed f m = screen (floorLines f m) ≡ Passed

@@ -2,7 +2,7 @@
 ghost use mathlib.Core.Path.{_≡_};
 ghost use Prim.Native.Nat.{_*_};
 ghost use Rattle.floor.specs.Place.{isSide, hasSides};
-ghost use Rattle.floor.specs.Refusal.{screen, mapLines, floorLines, firstAbove};
+ghost use Rattle.floor.specs.Refusal.{HasPassed, screen, mapLines, floorLines, endsLines, questionLines, firstAbove};
 use crate::Floor;
 use crate::GREATEST_SIDE;
 use crate::GREATEST_WEIGHT;
@@ -76,5 +76,39 @@ pub fn screen_floor(f: Floor, map: &[u8]) -> Screen
             }
             Screen::Refused(4, 0)
         }
+    }
+}
+
+// Refusals 5 to 8 of a question's start and goal.
+fn screen_ends(f: Floor, map: &[u8], start: usize, goal: usize) -> Screen
+    requires { ⌜ HasPassed f (now map) ⌝ }
+    ensures { λ r. ⌜ r ≡ screen (endsLines f (now (map .entry)) start goal) ⌝ }
+{
+    let width = f.width;
+    let height = f.height;
+    let cells = width * height;
+    if cells <= start {
+        return Screen::Refused(5, 0);
+    }
+    if cells <= goal {
+        return Screen::Refused(6, 0);
+    }
+    if map[start] == 0 {
+        return Screen::Refused(7, 0);
+    }
+    if map[goal] == 0 {
+        return Screen::Refused(8, 0);
+    }
+    Screen::Passed
+}
+
+// Refusals 1 to 8, which the search and the route check try first.
+pub fn screen_question(f: Floor, map: &[u8], start: usize, goal: usize) -> Screen
+    ensures { λ r. ⌜ r ≡ screen (questionLines f (now (map .entry)) start goal) ⌝ }
+{
+    let tried = screen_floor(f, map);
+    match tried {
+        Screen::Refused(number, place) => Screen::Refused(number, place),
+        Screen::Passed => screen_ends(f, map, start, goal),
     }
 }

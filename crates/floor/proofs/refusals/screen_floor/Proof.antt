@@ -1,20 +1,12 @@
 -- What `screen_map` found stands, and after `Passed` line 4 is tried, by its two comparisons.
-use mathlib.Core.Path.{_≡_, sym, ap, _∙_}
-use mathlib.Core.List.{List, [], _∷_}
-use Prim.Native.Nat.{ℕ}
+use mathlib.Core.Path.{_≡_}
+use mathlib.Core.List.{[], _∷_}
 use borrow.Author.Needs.{needs}
 use borrow.Author.Tests.{eq-eqb, ne-eqb}
-use Rattle.floor.specs.declared.Floor.{Floor}
-use Rattle.floor.specs.declared.Screen.{Screen}
 use Rattle.floor.specs.Refusal.{screen, mapLines, waysLine, floorLines}
-use Rattle.floor.proofs.Screens.{andThen, screen-append}
+use Rattle.floor.proofs.Screens.{screen-after}
 use Rattle.floor.proofs.refusals.screen_floor.Statement.{statement}
 use Rattle.floor.proofs.refusals.screen_floor.Tie as tie
-
-after-map : (f : Floor) (m : List ℕ) (found s : Screen) → found ≡ screen (mapLines f m) → found ≡ s
-    → screen (floorLines f m) ≡ andThen s (screen (waysLine f ∷ []))
-after-map f m found s e h =
-    screen-append (mapLines f m) (waysLine f ∷ []) ∙ ap (λ (x : Screen). andThen x (screen (waysLine f ∷ []))) (sym e ∙ h)
 
 screen-map-requires : tie.Need-screen-map-requires
 screen-map-requires c κs = search needs
@@ -31,7 +23,7 @@ last-line : (c : tie.After-enum-told) →
     screen (floorLines (s .args .f) (s .args .map .now)) ≡ screen (waysLine (s .args .f) ∷ [])
 last-line c =
     let s = c .before .before .before .before in
-    after-map (s .args .f) (s .args .map .now) _ _ (c .before .before .screen-map .ensures) (c .enum-told .given .1)
+    screen-after (mapLines (s .args .f) (s .args .map .now)) (waysLine (s .args .f) ∷ []) _ _ (c .before .before .screen-map .ensures) (c .enum-told .given .1)
 
 returns : tie.Need-returns
 returns c = rw (last-line (c .before), eq-eqb _ _ (c .if1 .taken))
@@ -43,7 +35,7 @@ returns-3 : tie.Need-returns-3
 returns-3 c =
     let t = c .before in
     let s = t .before .before .before .before in
-    rw (after-map (s .args .f) (s .args .map .now) _ _ (t .before .before .screen-map .ensures) (t .tried .given .1))
+    rw (screen-after (mapLines (s .args .f) (s .args .map .now)) (waysLine (s .args .f) ∷ []) _ _ (t .before .before .screen-map .ensures) (t .tried .given .1))
 
 returns-4 : tie.Need-returns-4
 returns-4 c = rw (last-line (c .before .before), ne-eqb _ _ (c .before .if1 .left), ne-eqb _ _ (c .if2 .left))
