@@ -163,6 +163,7 @@ module _ (f : Floor) (m : List ℕ) where
       at-least = λ u d t. cost-least f m u d (allowed-is f m u d t);
       at-most = λ u d t. cost-most f m u d (allowed-is f m u d t) good;
       positive = omega arith;
+      ordered = omega arith;
       costs-fit = omega (arith, few-cells good);
       cells-fit = omega (arith, few-cells good);
     }

@@ -5,13 +5,13 @@ use mathlib.Core.Bool.{Bool, true, false, cond, not, _&&_}
 use mathlib.Core.List.{List, [], _∷_}
 use Prim.Native.Nat.{ℕ, zero, suc, _+_, _≤_, _<_}
 use native.Mathlib.Omega.{arith}
-use native.Mathlib.Decide.{ℕ-discrete}
+use native.Mathlib.Decide.{ℕ-discrete, decLt}
 use native.Mathlib.Nat.{le-antisymm}
 use lib.Dec.{T, ltb, ltb→lt, lt→ltb, nltb→le, T-not}
 use lib.ListN.{length, getD, length-append, List·getD-append}
 use lib.Seq.{getD-at}
 use Rattle.paths.specs.Below.{tick, count, lowest, every, values}
-use Rattle.paths.proofs.Bools.{T-true, not-T-false, T-and, and-T, by-cond}
+use Rattle.paths.proofs.Bools.{T-true, not-T-false, dec-T, T-and, and-T, by-cond}
 
 tick-le : (a : Bool) → tick a ≤ 1
 tick-le true = omega arith
@@ -50,6 +50,30 @@ count-strict p q (suc n) h w k a b =
     go (yes e) ih = omega (arith, tick-strict (p n) (q n) (rw e at a) (rw e at b), count-mono p q n (λ v k. h v (omega arith)))
     go (no e) ih = omega (arith, tick-mono (p n) (q n) (h n (omega arith)), ih (omega arith))
 
+-- at most one number passes q that does not pass p
+pub count-one-more : (p q : ℕ → Bool) (u n : ℕ) → ((v : ℕ) → v < n → v ≢ u → T (q v) → T (p v)) → count q n ≤ suc (count p n)
+count-one-more p q u zero h = omega arith
+count-one-more p q u (suc n) h = go (ℕ-discrete n u) (count-one-more p q u n (λ v k. h v (omega arith)))
+  where
+    go : Dec (n ≡ u) → count q n ≤ suc (count p n) → count q (suc n) ≤ suc (count p (suc n))
+    go (yes e) ih = omega (arith, tick-le (q n), count-mono q p n (λ v k t. h v (omega arith) (omega arith) t))
+    go (no e) ih = omega (arith, ih, tick-mono (q n) (p n) (h n (omega arith) e))
+
+-- where more pass q than p, some number passes q and not p
+pub count-gap : (p q : ℕ → Bool) (n : ℕ) → count p n < count q n → (u : ℕ) × (u < n) × T (q u) × (T (p u) → ⊥)
+count-gap p q zero h = absurd (omega arith)
+count-gap p q (suc n) h = go (dec-T (q n)) (dec-T (p n)) (count-gap p q n)
+  where
+    further : (count p n < count q n → (u : ℕ) × (u < n) × T (q u) × (T (p u) → ⊥)) → count p n < count q n
+        → (u : ℕ) × (u < suc n) × T (q u) × (T (p u) → ⊥)
+    further ih l = let r = ih l in (r .0, omega (arith, r .1), r .2, r .3)
+
+    go : Dec (T (q n)) → Dec (T (p n)) → (count p n < count q n → (u : ℕ) × (u < n) × T (q u) × (T (p u) → ⊥))
+        → (u : ℕ) × (u < suc n) × T (q u) × (T (p u) → ⊥)
+    go (yes a) (no b) ih = (n, omega arith, a, b)
+    go (yes a) (yes b) ih = further ih (omega (arith, h, ap tick (T-true (q n) a), ap tick (T-true (p n) b)))
+    go (no a) b ih = further ih (omega (arith, h, ap tick (not-T-false (q n) a)))
+
 -- what `lowest` gives
 pub record Lowest (p : ℕ → Bool) (n x : ℕ) : Type 0 where
   pub small : x ≤ n
@@ -75,6 +99,17 @@ lowest-is p (suc n) =
     nowhere : Lowest p n (lowest p n) → n ≤ lowest p n → T (not (p n)) → (d : ℕ) → d < suc n → T (p d) → Dec (d ≡ n) → suc n ≤ d
     nowhere ih l b d h k (yes e) = absurd (T-not (p n) b (rw e at k))
     nowhere ih l b d h k (no e) = absurd (omega (arith, ih .minimal d (omega arith) k))
+
+-- two tests that agree have the same lowest
+pub lowest-same : (p q : ℕ → Bool) (n : ℕ) → ((v : ℕ) → v < n → T (p v) → T (q v)) → ((v : ℕ) → v < n → T (q v) → T (p v)) → lowest p n ≡ lowest q n
+lowest-same p q n f h = le-antisymm (lower p q (lowest-is p n) (lowest-is q n) h) (lower q p (lowest-is q n) (lowest-is p n) f)
+  where
+    lower : (a b : ℕ → Bool) → Lowest a n (lowest a n) → Lowest b n (lowest b n) → ((v : ℕ) → v < n → T (b v) → T (a v)) → lowest a n ≤ lowest b n
+    lower a b x y k = go (decLt (lowest b n) n)
+      where
+        go : Dec (lowest b n < n) → lowest a n ≤ lowest b n
+        go (yes l) = x .minimal (lowest b n) l (k (lowest b n) l (y .passes l))
+        go (no l) = omega (arith, x .small)
 
 -- the two steps of a loop that looks for the lowest: nothing below i passes, and i does not, or i does
 pub lowest-next : (p : ℕ → Bool) (i : ℕ) → lowest p i ≡ i → (T (p i) → ⊥) → lowest p (suc i) ≡ suc i

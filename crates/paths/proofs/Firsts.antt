@@ -38,11 +38,11 @@ first-unique g s v ds es f h =
     go (inr a) (inl e) = e
     go (inr a) (inr b) = absurd (not-both-ahead (reverse ds) (reverse es) a b)
 
-meets-some : (o : Option ℕ) (c : ℕ) → T (meets o c) → o ≡ some c
+pub meets-some : (o : Option ℕ) (c : ℕ) → T (meets o c) → o ≡ some c
 meets-some none c h = absurd h
 meets-some (some a) c h = ap {B = Option ℕ} some (eqb→eq a c h)
 
-some-meets : (o : Option ℕ) (c : ℕ) → o ≡ some c → T (meets o c)
+pub some-meets : (o : Option ℕ) (c : ℕ) → o ≡ some c → T (meets o c)
 some-meets o c e = rw e (eqb-refl c)
 
 reverse-snoc : (es : List ℕ) (e : ℕ) → reverse (es ++ (e ∷ [])) ≡ e ∷ reverse es
@@ -107,15 +107,15 @@ module _ {g : Graph} {least most : ℕ} (law : Lawful g least most) (s : ℕ) (t
   least-short v h es w c = omega (arith, few-steps (suc (getD t v 0)) v h (omega arith) es w c, cheaper-lt g t v h)
 
   -- the chosen last step of a cell that is not the start gives the cell its value, and no lower one does
-  record Chosen (v d : ℕ) : Type 0 where
-    u : ℕ
-    steps : T (g .allowed u d)
-    lands : g .to u d ≡ v
-    known : getD t u 0 ≢ MARK
-    sum : getD t u 0 + g .cost u d ≡ getD t v 0
-    none-lower : (e : ℕ) → e < g .directions → offer g t v e ≡ some (getD t v 0) → d ≤ e
+  pub record Chosen (v d : ℕ) : Type 0 where
+    pub u : ℕ
+    pub steps : T (g .allowed u d)
+    pub lands : g .to u d ≡ v
+    pub known : getD t u 0 ≢ MARK
+    pub sum : getD t u 0 + g .cost u d ≡ getD t v 0
+    pub none-lower : (e : ℕ) → e < g .directions → offer g t v e ≡ some (getD t v 0) → d ≤ e
 
-  chosen : (v : ℕ) → v < g .cells → v ≢ s → getD t v 0 ≢ MARK → Chosen v (lastStep g t v)
+  pub chosen : (v : ℕ) → v < g .cells → v ≢ s → getD t v 0 ≢ MARK → Chosen v (lastStep g t v)
   unfolding lastStep
   chosen v h n m =
       let l = lowest-is (λ d. meets (offer g t v d) (getD t v 0)) (g .directions) in

@@ -7,3 +7,7 @@ pub mod Exists
 pub mod Orders
 pub mod Firsts
 pub mod Meaning
+pub mod Waves
+pub mod Tallies
+pub mod Cuts
+pub mod Answers

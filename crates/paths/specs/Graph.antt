@@ -27,6 +27,7 @@ pub record Lawful (g : Graph) (least most : ℕ) : Type 0 where
   pub at-least : (u d : ℕ) → T (g .allowed u d) → least ≤ g .cost u d
   pub at-most : (u d : ℕ) → T (g .allowed u d) → g .cost u d ≤ most
   pub positive : 0 < least
+  pub ordered : least ≤ most
   -- no least cost reaches MARK, and cell numbers fit 32 bits
   pub costs-fit : most * g .cells < MARK
   pub cells-fit : g .cells ≤ MARK

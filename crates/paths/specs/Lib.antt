@@ -5,3 +5,5 @@ pub mod Table
 pub mod First
 pub mod Order
 pub mod Answer
+pub mod Wave
+pub mod Cut
