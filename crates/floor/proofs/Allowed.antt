@@ -1,10 +1,9 @@
 -- An allowed step in 01's words: the tests of stepOf are taken apart once, and put together again.
-use mathlib.Core.Path.{_≡_, refl, sym, _∙_}
+use mathlib.Core.Path.{_≡_, refl}
 use mathlib.Core.Logic.{_↔_}
 use mathlib.Core.Bool.{Bool, true, false, cond, not, _&&_}
 use mathlib.Core.List.{List}
-use Prim.Native.Nat.{ℕ, _/_, _%_, _<_, _≤_}
-use native.Mathlib.Omega.{arith}
+use Prim.Native.Nat.{ℕ, _<_}
 use lib.Dec.{T, ltb, ltb→lt, lt→ltb}
 use lib.ListN.{getD}
 use Rattle.paths.proofs.Bools.{T-true, T-and, and-T}
@@ -17,7 +16,7 @@ use Rattle.floor.specs.declared.Step.the-variants.{To, Barred}
 use Rattle.floor.specs.Direction.{isDiagonal}
 use Rattle.floor.specs.Place.{cells, placeOf, cellAt, moved, corner, onMap, isOpen}
 use Rattle.floor.specs.Step.{isDirection, target, stepCost, cutsCorner, entering, stepOf, isTo, allowed}
-use Rattle.floor.proofs.Places.{OnMap, on-map, cell-of-place, cell-lt}
+use Rattle.floor.proofs.Places.{cell-of-place, cell-lt}
 
 -- Both cells are on the map and open, the direction exists, and a diagonal step has both cells beside it open
 pub record Allowed (f : Floor) (m : List ℕ) (v d : ℕ) : Type 0 where

@@ -3,7 +3,7 @@ use mathlib.Core.Path.{_≡_, refl, sym, _∙_, ap, subst}
 use mathlib.Core.Logic.{_≢_, ⊎-elim}
 use mathlib.Core.Bool.{_&&_, _||_, not}
 use mathlib.Core.List.{List}
-use Prim.Native.Nat.{ℕ, _+_, _-_, _*_, _/_, _%_, _≤_, _<_}
+use Prim.Native.Nat.{ℕ, _+_, _-_, _/_, _%_, _≤_, _<_}
 use native.Mathlib.Nat.{mul-le-mul}
 use native.Mathlib.Omega.{arith}
 use lib.Arith.{digits-div, digits-mod}
@@ -17,7 +17,7 @@ use Rattle.paths.proofs.Meaning.{least-cost-most}
 use Rattle.floor.specs.declared.Floor.{Floor}
 use Rattle.floor.specs.declared.Place.{Place}
 use Rattle.floor.specs.Direction.{rowOf, opposite}
-use Rattle.floor.specs.Place.{greatestSide, cells, at, placeOf, cellAt, moved, corner, isOpen}
+use Rattle.floor.specs.Place.{cells, at, placeOf, cellAt, moved, corner, isOpen}
 use Rattle.floor.specs.Step.{isDirection, target, stepWeight, stepCost, leastStep, greatestStep, greatestCost, allowed, graph}
 use Rattle.floor.specs.Refusal.{HasPassed}
 use Rattle.floor.proofs.Passing.{MapFacts, facts, few-cells}

@@ -1,15 +1,15 @@
 -- The answer from a wave's costs: the walk back meets only costs below the bound, where they are the right ones, and L's places are ranks.
 use mathlib.Core.Path.{_≡_, refl, sym, _∙_, ap, subst}
 use mathlib.Core.Logic.{_≢_}
-use mathlib.Core.Bool.{cond, _&&_, and-false}
+use mathlib.Core.Bool.{cond, and-false}
 use mathlib.Core.List.{List, [], _∷_, reverse}
 use mathlib.Core.Option.{some}
-use Prim.Native.Nat.{ℕ, zero, suc, _+_, _*_, _≤_, _<_}
+use Prim.Native.Nat.{ℕ, zero, suc, _*_, _≤_, _<_}
 use native.Mathlib.Omega.{arith}
 use native.Mathlib.Decide.{decLt}
 use native.Mathlib.Numerals.{add-one}
 use borrow.Author.Tests.{lt-ltb, le-ltb, lt-leb, le-leb, eq-eqb, ne-eqb}
-use lib.Dec.{T, eqb, leb, ltb, eqb→eq, ltb→lt, lt→ltb}
+use lib.Dec.{T, eqb, ltb, eqb→eq, ltb→lt, lt→ltb}
 use lib.ListN.{length, getD}
 use lib.Seq.{ext-getD}
 use Rattle.paths.specs.Below.{values}
@@ -17,7 +17,7 @@ use Rattle.paths.specs.Graph.{Graph, Lawful, MARK}
 use Rattle.paths.specs.Table.{Right, offer}
 use Rattle.paths.specs.First.{meets, lastStep, backward, firstRoute}
 use Rattle.paths.specs.Order.{key, known, L, place}
-use Rattle.paths.specs.Answer.{Kind, Answer, answerOf, costsLeft}
+use Rattle.paths.specs.Answer.{Kind, answerOf, costsLeft}
 use Rattle.paths.specs.Cut.{cheaperThan, rank, cut, Agree}
 use Rattle.paths.proofs.Bools.{dec-T, by-cond, not-eqb-ne}
 use Rattle.paths.proofs.Below.{count-same, lowest-same, length-values, getD-values}

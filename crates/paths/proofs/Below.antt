@@ -1,17 +1,17 @@
 -- Laws of count, lowest, every and values, each by induction on the bound.
-use mathlib.Core.Path.{_≡_, refl, sym, _∙_, ap, subst}
+use mathlib.Core.Path.{_≡_, refl, _∙_, ap, subst}
 use mathlib.Core.Logic.{_≢_}
-use mathlib.Core.Bool.{Bool, true, false, cond, not, _&&_}
-use mathlib.Core.List.{List, [], _∷_}
-use Prim.Native.Nat.{ℕ, zero, suc, _+_, _≤_, _<_}
+use mathlib.Core.Bool.{Bool, true, false, cond, not}
+use mathlib.Core.List.{[], _∷_}
+use Prim.Native.Nat.{ℕ, zero, suc, _≤_, _<_}
 use native.Mathlib.Omega.{arith}
 use native.Mathlib.Decide.{ℕ-discrete, decLt}
 use native.Mathlib.Nat.{le-antisymm}
-use lib.Dec.{T, ltb, ltb→lt, lt→ltb, nltb→le, T-not}
+use lib.Dec.{T, ltb, ltb→lt, nltb→le, T-not}
 use lib.ListN.{length, getD, length-append, List·getD-append}
 use lib.Seq.{getD-at}
 use Rattle.paths.specs.Below.{tick, count, lowest, every, values}
-use Rattle.paths.proofs.Bools.{T-true, not-T-false, dec-T, T-and, and-T, by-cond}
+use Rattle.paths.proofs.Bools.{T-true, not-T-false, dec-T, T-and, by-cond}
 
 tick-le : (a : Bool) → tick a ≤ 1
 tick-le true = omega arith

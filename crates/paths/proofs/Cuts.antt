@@ -1,29 +1,28 @@
 -- From a wave to the answer: its costs agree with the right table below the bound, so keys there rank the cells as L does, and L's places are counts.
-use mathlib.Core.Path.{_≡_, refl, sym, _∙_, ap, subst}
-use mathlib.Core.Logic.{_≢_, _⊎_, inl, inr, ⊎-elim}
-use mathlib.Core.Bool.{Bool, true, false, cond, not, _&&_}
-use mathlib.Core.List.{List, [], _∷_}
-use Prim.Native.Nat.{ℕ, zero, suc, _+_, _-_, _*_, _≤_, _<_}
+use mathlib.Core.Path.{_≡_, sym, _∙_, ap, subst}
+use mathlib.Core.Logic.{_≢_}
+use mathlib.Core.Bool.{Bool, cond, _&&_}
+use mathlib.Core.List.{List, []}
+use Prim.Native.Nat.{ℕ, suc, _*_, _≤_, _<_}
 use native.Mathlib.Omega.{arith}
-use native.Mathlib.Decide.{ℕ-discrete, decLt}
+use native.Mathlib.Decide.{decLt}
 use borrow.Author.Tests.{lt-ltb, le-ltb}
-use lib.Dec.{T, eqb, leb, ltb, ltb→lt, lt→ltb, leb→le, le→leb, nltb→le}
+use lib.Dec.{T, ltb, ltb→lt, lt→ltb}
 use lib.ListN.{length, getD}
 use lib.Seq.{ext-getD}
-use Rattle.paths.specs.Below.{tick, count, values}
+use Rattle.paths.specs.Below.{count, values}
 use Rattle.paths.specs.Graph.{Graph, Lawful, MARK}
-use Rattle.paths.specs.Route.{costOf, Route, Least}
+use Rattle.paths.specs.Route.{costOf, Route}
 use Rattle.paths.specs.Table.{Right}
-use Rattle.paths.specs.Order.{key, known, sorted, L, place}
+use Rattle.paths.specs.Order.{key, known, L, place}
 use Rattle.paths.specs.Answer.{costsLeft}
-use Rattle.paths.specs.Wave.{occ, mark, Wave}
-use Rattle.paths.specs.Cut.{tally, cheaperThan, rank, cut, Agree}
-use Rattle.paths.proofs.Bools.{T-true, not-T-false, dec-T, T-and, and-T, by-cond}
+use Rattle.paths.specs.Wave.{Wave}
+use Rattle.paths.specs.Cut.{rank, cut, Agree}
+use Rattle.paths.proofs.Bools.{dec-T, T-and, and-T}
 use Rattle.paths.proofs.Below.{count-mono, count-strict, count-same, count-one-more, count-gap, length-values, getD-values}
 use Rattle.paths.proofs.Exists.{least-unique}
-use Rattle.paths.proofs.Orders.{known-is, is-known, key-apart, place-in, place-absent, at-place, known-in, in-known, length-sorted, place-count}
-use Rattle.paths.proofs.Waves.{below-least, advance, mark-is, mark-not, occ-none}
-use Rattle.paths.proofs.Tallies.{tally-count}
+use Rattle.paths.proofs.Orders.{is-known, key-apart, place-in, place-absent, at-place, known-in, in-known, length-sorted, place-count}
+use Rattle.paths.proofs.Waves.{below-least, reached, occ-none}
 
 module _ {g : Graph} {least most : ℕ} (law : Lawful g least most) (s : ℕ) (t : List ℕ) (right : Right g s t) where
   -- a wave's costs are the right ones below its bound
@@ -44,11 +43,25 @@ module _ {g : Graph} {least most : ℕ} (law : Lawful g least most) (s : ℕ) (t
   }
 
   -- and right everywhere when no cell is open
-  pub done-agrees : {costs : List ℕ} {bound : ℕ} → Wave g least s costs bound [] [] → bound + least ≤ MARK → Agree t costs MARK
-  done-agrees {costs} {bound} w f =
-      let low = MARK - least in
-      let e : low + least ≡ MARK = omega arith in
-      wave-agrees (subst (λ (b : ℕ). Wave g least s costs b [] []) e (advance law s w low (λ v m. absurd (omega (arith, occ-none v))) (omega arith) (omega arith) (omega arith)))
+  pub done-agrees : {costs : List ℕ} {bound : ℕ} → Wave g least s costs bound [] [] → Agree t costs MARK
+  done-agrees {costs} w = record {
+    lengths = w .covers ∙ sym (right .covers);
+    there = λ v h b.
+        let i : v < g .cells = omega (arith, right .covers) in
+        let r = w .sound v i (omega arith) in
+        let l = right .reached v i (λ e. right .closed v i e (r .0) (r .1)) in
+        omega (arith, l .none-less (r .0) (r .1), r .2, l .costs, missed v (l .way) (l .route) (omega (arith, l .none-less (r .0) (r .1), r .2, l .costs)));
+    back = λ v h b.
+        let i : v < g .cells = omega (arith, right .covers) in
+        let l = right .reached v i (omega arith) in
+        let a = missed v (l .way) (l .route) (omega (arith, l .costs)) in
+        let r = w .sound v i (omega (arith, l .costs)) in
+        omega (arith, l .none-less (r .0) (r .1), r .2, l .costs);
+  }
+    where
+      -- no route below MARK was missed
+      missed : (v : ℕ) (ds : List ℕ) → Route g s v ds → costOf g s ds < MARK → getD costs v 0 ≤ costOf g s ds
+      missed v ds x b = reached law s w MARK (λ u m. absurd (omega (arith, occ-none u))) (omega arith) v ds x (omega arith)
 
 -- the keys of a cost and above
 pub key-from : (l : List ℕ) (v c : ℕ) → c ≤ getD l v 0 → c * 4294967296 ≤ key l v

@@ -1,7 +1,6 @@
 -- The walk back by the lowest direction is the first route: any least-cost route ends in a step that gives the cell its value; induction along the walk
 use mathlib.Core.Path.{_≡_, refl, sym, _∙_, ap, subst}
 use mathlib.Core.Logic.{_≢_, _⊎_, inl, inr}
-use mathlib.Core.Bool.{cond}
 use mathlib.Core.List.{List, [], _∷_, _++_, reverse, reverse-cons, reverse-append, reverse-reverse}
 use mathlib.Core.Option.{Option, none, some}
 use Prim.Native.Nat.{ℕ, zero, suc, _+_, _≤_, _<_}
@@ -17,7 +16,7 @@ use Rattle.paths.specs.First.{Ahead, First, meets, lastStep, backward, f
 use Rattle.paths.proofs.Bools.{T-and, by-cond, not-eqb-ne}
 use Rattle.paths.proofs.Below.{lowest-is}
 use Rattle.paths.proofs.Walks.{Ending, snoc, stay, ending}
-use Rattle.paths.proofs.Ground.{Offers, Grounded, Tight, cheaper, cheaper-step, cheaper-lt, parent-less, route-lower, right-grounded, right-tight}
+use Rattle.paths.proofs.Ground.{Grounded, Tight, cheaper, cheaper-step, cheaper-lt, route-lower, right-grounded, right-tight}
 use Rattle.paths.proofs.Rule.{offer-is, is-offer}
 
 not-both-ahead : (a b : List ℕ) → Ahead a b → Ahead b a → ⊥

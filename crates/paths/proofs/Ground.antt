@@ -1,5 +1,5 @@
 -- The hub: right is grounded (the start has 0, other values come from parents) and tight (no step offers less); values fall to parents, so each belongs to a route
-use mathlib.Core.Path.{_≡_, refl, sym, _∙_, ap}
+use mathlib.Core.Path.{_≡_, sym}
 use mathlib.Core.Logic.{_≢_}
 use mathlib.Core.List.{List, [], _∷_, _++_}
 use Prim.Native.Nat.{ℕ, zero, suc, _+_, _*_, _≤_, _<_}
@@ -10,7 +10,7 @@ use lib.Dec.{T, ltb, ltb→lt, lt→ltb}
 use lib.ListN.{length, getD}
 use Rattle.paths.specs.Below.{count}
 use Rattle.paths.specs.Graph.{Graph, Lawful, MARK}
-use Rattle.paths.specs.Route.{walks, ends, costOf, Route, Least}
+use Rattle.paths.specs.Route.{walks, ends, costOf, Route}
 use Rattle.paths.specs.Table.{Right}
 use Rattle.paths.proofs.Bools.{T-and}
 use Rattle.paths.proofs.Below.{count-le, count-strict}

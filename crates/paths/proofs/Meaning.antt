@@ -1,13 +1,12 @@
 -- What the definitions of specs/ mean: the theorems, each from the laws in the files beside this one.
-use mathlib.Core.Path.{_≡_, refl, sym, _∙_, ap}
-use mathlib.Core.Logic.{_↔_, _≢_, _⊎_, inl, inr}
+use mathlib.Core.Path.{_≡_, sym, _∙_, ap}
+use mathlib.Core.Logic.{_↔_, _≢_}
 use mathlib.Core.Bool.{_&&_}
 use mathlib.Core.List.{List, [], _∷_}
 use Prim.Native.Nat.{ℕ, _-_, _*_, _≤_, _<_}
 use native.Mathlib.Omega.{arith}
 use native.Mathlib.Nat.{mul-le-mul-left}
-use native.Mathlib.Decide.{ℕ-discrete, decLt}
-use lib.Dec.{T, ltb}
+use lib.Dec.{ltb}
 use lib.ListN.{length, getD}
 use Rattle.paths.specs.Below.{count}
 use Rattle.paths.specs.Graph.{Graph, Lawful, MARK}

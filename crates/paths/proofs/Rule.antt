@@ -1,7 +1,7 @@
 -- The rule holds everywhere exactly when the table is right: a cell's due is the least of its offers, so the rule says grounded and tight, and back
 use mathlib.Core.Path.{_≡_, refl, sym, _∙_, ap, subst}
 use mathlib.Core.Logic.{_≢_, _⊎_, inl, inr}
-use mathlib.Core.Bool.{cond, not, _&&_}
+use mathlib.Core.Bool.{not, _&&_}
 use mathlib.Core.List.{List, [], _∷_, _++_}
 use mathlib.Core.Option.{Option, none, some, Option·getD}
 use Prim.Native.Nat.{ℕ, zero, suc, _+_, _≤_, _<_, min}

@@ -4,13 +4,11 @@ use mathlib.Core.Logic.{_≢_, _⊎_, inl, inr, ⊎-elim}
 use mathlib.Core.List.{List, [], _∷_, _++_}
 use Prim.Native.Nat.{ℕ, zero, suc, _+_, _-_, _*_, _≤_, _<_}
 use native.Mathlib.Omega.{arith}
-use native.Mathlib.Nat.{mul-le-mul-left}
 use native.Mathlib.Decide.{ℕ-discrete, decLt}
 use borrow.Author.Tests.{eq-eqb, ne-eqb}
-use lib.Dec.{T, eqb}
+use lib.Dec.{T}
 use lib.ListN.{length, getD, set, length-set, List·getD-eq-default}
 use lib.Seq.{getD-set-same, getD-set-other}
-use Rattle.paths.specs.Below.{tick}
 use Rattle.paths.specs.Graph.{Graph, Lawful, MARK}
 use Rattle.paths.specs.Route.{walks, ends, costOf, Route, Least}
 use Rattle.paths.specs.Wave.{occ, mark, Relaxed, Wave, Taking}
@@ -304,7 +302,7 @@ module _ {g : Graph} {least most : ℕ} (law : Lawful g least most) (s : ℕ) wh
         let r = low-relaxed u (law .leaves u d (h .0)) (omega (arith, law .at-least u d (h .0))) d (h .0) in
         omega (arith, along ds (g .to u d) (a + g .cost u d) (h .1) (omega (arith, r)) (omega arith))
 
-    reached : (v : ℕ) (ds : List ℕ) → Route g s v ds → costOf g s ds < low + least → getD costs v 0 ≤ costOf g s ds
+    pub reached : (v : ℕ) (ds : List ℕ) → Route g s v ds → costOf g s ds < low + least → getD costs v 0 ≤ costOf g s ds
     reached v ds x b =
         let a = rw (x .arrives) at (along ds s 0 (x .allowed) (omega (arith, w .origin)) (omega arith)) in
         omega (arith, a)

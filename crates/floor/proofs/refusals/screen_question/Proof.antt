@@ -1,5 +1,5 @@
 -- What `screen_floor` found stands, and after `Passed` the lines of the two ends are left, which `screen_ends` tries.
-use mathlib.Core.Path.{_≡_, sym, _∙_}
+use mathlib.Core.Path.{sym, _∙_}
 use borrow.Author.Needs.{needs}
 use Rattle.floor.specs.Refusal.{floorLines, endsLines}
 use Rattle.floor.proofs.Screens.{screen-after}
