@@ -102,7 +102,7 @@ module _ {g : Graph} {least most : ℕ} (law : Lawful g least most) (s : ℕ) wh
       -- the limit falls before some cell below the bound, and the goal comes no sooner
       module _ (k : ℕ) (fits : k < bound * 4294967296) (from : rank costs k ≤ limit) (past : limit < rank costs (suc k))
           (later : getD costs goal 0 < bound → limit ≤ rank costs (key costs goal)) where
-        abbrev next : Next t costs bound a top few k limit
+        abbrev pub next : Next t costs bound a top few k limit
         next = next-cell t costs bound a top few k limit fits from past
 
         not-before : limit ≤ place goal (L t)

@@ -3,10 +3,11 @@ use mathlib.Core.Path.{_≡_, sym, _∙_, ap, subst}
 use mathlib.Core.Logic.{_≢_}
 use mathlib.Core.Bool.{Bool, cond, _&&_}
 use mathlib.Core.List.{List, []}
-use Prim.Native.Nat.{ℕ, suc, _*_, _≤_, _<_}
+use Prim.Native.Nat.{ℕ, suc, _*_, _/_, _≤_, _<_}
 use native.Mathlib.Omega.{arith}
 use native.Mathlib.Decide.{decLt}
 use borrow.Author.Tests.{lt-ltb, le-ltb}
+use lib.Arith.{digits-div}
 use lib.Dec.{T, ltb, ltb→lt, lt→ltb}
 use lib.ListN.{length, getD}
 use lib.Seq.{ext-getD}
@@ -63,10 +64,19 @@ module _ {g : Graph} {least most : ℕ} (law : Lawful g least most) (s : ℕ) (t
       missed : (v : ℕ) (ds : List ℕ) → Route g s v ds → costOf g s ds < MARK → getD costs v 0 ≤ costOf g s ds
       missed v ds x b = reached law s w MARK (λ u m. absurd (omega (arith, occ-none u))) (omega arith) v ds x (omega arith)
 
--- the keys of a cost and above
+-- the keys of a cost and above, and those below
 pub key-from : (l : List ℕ) (v c : ℕ) → c ≤ getD l v 0 → c * 4294967296 ≤ key l v
 unfolding key
 key-from l v c h = omega arith
+
+pub key-to : (l : List ℕ) (v c : ℕ) → v ≤ MARK → getD l v 0 < c → key l v < c * 4294967296
+unfolding key
+key-to l v c h b = omega arith
+
+-- the cost in a key
+pub key-cost : (l : List ℕ) (v : ℕ) → v ≤ MARK → key l v / 4294967296 ≡ getD l v 0
+unfolding key
+key-cost l v h = digits-div (getD l v 0) {m = 4294967296} (omega arith)
 
 module _ (t costs : List ℕ) (bound : ℕ) (a : Agree t costs bound) (top : bound ≤ MARK) (few : length t ≤ MARK) where
   -- a key below a cost's keys belongs to a smaller cost, and back
@@ -100,17 +110,13 @@ module _ (t costs : List ℕ) (bound : ℕ) (a : Agree t costs bound) (top : bou
   rank-count k b = rw (a .lengths)
       (count-same (before k) (λ u. ltb (key costs u) k) (length t) (λ u h. before-there k u b h) (λ u h. before-back k u b h))
 
-  key-top : (v : ℕ) → v < length t → getD costs v 0 < bound → key costs v < bound * 4294967296
-  unfolding key
-  key-top v h b = omega arith
-
   -- the place of a cell below the bound is its rank
   pub place-rank : (v : ℕ) → v < length t → getD costs v 0 < bound → place v (L t) ≡ rank costs (key costs v)
   place-rank v h b =
       let e = a .there v h b in
       place-count t v (length t) few h (is-known t v (omega arith))
       ∙ ap (λ (k : ℕ). count (before k) (length t)) (same-key v e)
-      ∙ rank-count (key costs v) (omega (arith, key-top v h b))
+      ∙ rank-count (key costs v) (omega (arith, key-to costs v bound (omega arith) b))
 
   -- one more cell comes before the next key
   pub rank-suc : (v : ℕ) → v < length t → rank costs (suc (key costs v)) ≡ suc (rank costs (key costs v))

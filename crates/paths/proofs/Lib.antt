@@ -11,3 +11,4 @@ pub mod Waves
 pub mod Tallies
 pub mod Cuts
 pub mod Answers
+pub mod Fronts
