@@ -4,3 +4,5 @@ pub mod Rows
 pub mod Places
 pub mod Allowed
 pub mod Laws
+pub mod Entering
+pub mod Questions

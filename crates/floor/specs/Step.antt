@@ -6,6 +6,8 @@ use lib.Dec.{eqb, ltb}
 use lib.ListN.{getD}
 use Rattle.paths.specs.Graph.{Graph}
 use Rattle.floor.specs.declared.Floor.{Floor}
+use Rattle.floor.specs.declared.Into.{Into}
+use Rattle.floor.specs.declared.Into.the-variants.{From, Nothing}
 use Rattle.floor.specs.declared.Place.{Place}
 use Rattle.floor.specs.declared.Reason.the-variants.{NoSuchDirection, LeftOffMap, LeftBlocked, LeavesMap, EntersBlocked, CutsCorner}
 use Rattle.floor.specs.declared.Step.{Step}
@@ -64,6 +66,12 @@ allowed f m v d = isTo (stepOf f m v d)
 
 unfoldable pub target : Floor → ℕ → ℕ → ℕ
 target f v d = cellAt f (moved (placeOf f v) d)
+
+-- The step in direction d that enters cell v: the cell that it leaves and what it costs, or that there is none
+unfoldable pub intoOf : Floor → List ℕ → ℕ → ℕ → Into
+intoOf f m v d =
+    let u = target f v (opposite d) in
+    cond (allowed f m u d && eqb (target f u d) v) (From u (stepCost m d u v)) Nothing
 
 -- the floor as a graph
 abbrev pub graph : Floor → List ℕ → Graph

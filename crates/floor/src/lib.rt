@@ -94,6 +94,12 @@ pub enum Step {
     Barred(Reason),
 }
 
+// The cell that a step leaves and what the step costs, or that there is none.
+pub enum Into {
+    From(usize, u32),
+    Nothing,
+}
+
 // Whether an input passed the refusals that were tried, or the refusal's number and place.
 pub enum Screen {
     Passed,

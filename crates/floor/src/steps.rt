@@ -6,11 +6,12 @@ ghost use lib.ListN.{length};
 ghost use Rattle.paths.specs.Graph.{MARK};
 ghost use Rattle.floor.specs.Direction.{IsRow, plusOne};
 ghost use Rattle.floor.specs.Place.{IsNear, cells, placeOf, moved, onMap, cellAt, isOpen};
-ghost use Rattle.floor.specs.Step.{isDirection, stepCost, cutsCorner, entering, stepOf};
+ghost use Rattle.floor.specs.Step.{isDirection, stepCost, cutsCorner, entering, stepOf, intoOf};
 ghost use Rattle.floor.specs.Refusal.{HasPassed};
 use crate::DIRECTIONS;
 use crate::Direction;
 use crate::Floor;
+use crate::Into;
 use crate::Place;
 use crate::Reason;
 use crate::Step;
@@ -180,4 +181,20 @@ pub fn step_test(f: Floor, map: &[u8], cell: usize, direction: usize) -> Step
         return Step::Barred(Reason::LeftOffMap);
     }
     Step::Barred(Reason::NoSuchDirection)
+}
+
+// The step that enters `cell` in a direction: it leaves the cell that the step back from `cell` enters.
+pub fn step_into(f: Floor, map: &[u8], cell: usize, direction: usize) -> Into
+    requires { ⌜ HasPassed f (now map) ⌝ }
+    ensures { λ r. ⌜ r ≡ intoOf f (now (map .entry)) cell direction ⌝ }
+{
+    if 8 <= direction {
+        return Into::Nothing;
+    }
+    let back = step_test(f, map, cell, (direction + 4) % 8);
+    let Step::To(from, _) = back else {
+        return Into::Nothing;
+    };
+    let cost = step_cost(map, from, cell, direction);
+    Into::From(from, cost)
 }

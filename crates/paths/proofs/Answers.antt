@@ -47,7 +47,7 @@ module _ {g : Graph} {least most : ℕ} (law : Lawful g least most) (s : ℕ) wh
     back : (u : ℕ) → u < g .cells → getD t u 0 < bound → getD costs u 0 ≡ getD t u 0
     back u h = a .back u (omega (arith, right .covers))
 
-    last-same : (v : ℕ) → v < g .cells → getD t v 0 < bound → lastStep g costs v ≡ lastStep g t v
+    pub last-same : (v : ℕ) → v < g .cells → getD t v 0 < bound → lastStep g costs v ≡ lastStep g t v
     unfolding lastStep
     last-same v h b =
         lowest-same (λ d. meets (offer g costs v d) (getD costs v 0)) (λ d. meets (offer g t v d) (getD t v 0)) (g .directions)

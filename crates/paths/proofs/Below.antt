@@ -13,7 +13,7 @@ use lib.Seq.{getD-at}
 use Rattle.paths.specs.Below.{tick, count, lowest, every, values}
 use Rattle.paths.proofs.Bools.{T-true, not-T-false, dec-T, T-and, by-cond}
 
-tick-le : (a : Bool) → tick a ≤ 1
+pub tick-le : (a : Bool) → tick a ≤ 1
 tick-le true = omega arith
 tick-le false = omega arith
 

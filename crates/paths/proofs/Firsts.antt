@@ -44,7 +44,7 @@ meets-some (some a) c h = ap {B = Option ℕ} some (eqb→eq a c h)
 pub some-meets : (o : Option ℕ) (c : ℕ) → o ≡ some c → T (meets o c)
 some-meets o c e = rw e (eqb-refl c)
 
-reverse-snoc : (es : List ℕ) (e : ℕ) → reverse (es ++ (e ∷ [])) ≡ e ∷ reverse es
+pub reverse-snoc : (es : List ℕ) (e : ℕ) → reverse (es ++ (e ∷ [])) ≡ e ∷ reverse es
 reverse-snoc es e = reverse-append es (e ∷ [])
 
 module _ {g : Graph} {least most : ℕ} (law : Lawful g least most) (s : ℕ) (t : List ℕ) (i : s < g .cells) (r : Right g s t) where

@@ -12,3 +12,4 @@ pub mod Tallies
 pub mod Cuts
 pub mod Answers
 pub mod Fronts
+pub mod Walking

@@ -173,7 +173,7 @@ module _ {g : Graph} {least most : ℕ} (law : Lawful g least most) (s : ℕ) wh
 
   -- the next cell u of the band
   module _ {costs : List ℕ} {bound u : ℕ} {rest later : List ℕ} (w : Wave g least s costs bound (u ∷ rest) later) where
-    next-inside : u < g .cells
+    pub next-inside : u < g .cells
     next-inside = go (decLt u (g .cells))
       where
         go : Dec (u < g .cells) → u < g .cells
@@ -183,7 +183,7 @@ module _ {g : Graph} {least most : ℕ} (law : Lawful g least most) (s : ℕ) wh
     next-known : getD costs u 0 ≢ MARK
     next-known e = omega (arith, w .listed u next-inside (omega (arith, w .top)), mark-is (getD costs u 0) e, occ-here u rest)
 
-    next-near : bound ≤ getD costs u 0 + least
+    pub next-near : bound ≤ getD costs u 0 + least
     next-near = w .near u (omega (arith, occ-here u rest))
 
     fewer : (v : ℕ) → occ v rest ≤ occ v (u ∷ rest)

@@ -1,0 +1,187 @@
+-- The last band as the promise asks: what the calls of the last band need, and their answers as rows of 01's table.
+use mathlib.Core.Path.{_≡_, refl, sym, _∙_, ap, subst}
+use mathlib.Core.Logic.{_≢_}
+use mathlib.Core.Bool.{false, true, not, _&&_}
+use mathlib.Core.List.{List, [], _++_}
+use Prim.Native.Nat.{ℕ, suc, _+_, _-_, _*_, _≤_, _<_}
+use native.Mathlib.Omega.{arith}
+use native.Mathlib.Decide.{decLt}
+use borrow.Author.Tests.{leb-false, le-ltb}
+use lib.Dec.{leb, ltb}
+use lib.ListN.{length, getD, drop}
+use lib.Seq.{slice, slice-empty}
+use Rattle.paths.specs.Graph.{MARK}
+use Rattle.paths.specs.First.{firstRoute}
+use Rattle.paths.specs.Order.{key, L, place}
+use Rattle.paths.specs.Answer as row
+use Rattle.paths.specs.Answer.{Kind, costsLeft}
+use Rattle.paths.specs.Cut.{cheaperThan, rank, Agree}
+use Rattle.paths.specs.Wave.{Wave}
+use Rattle.paths.proofs.Answers.{first-same}
+use Rattle.paths.proofs.Cuts.{wave-agrees, key-to, place-rank, place-early}
+use Rattle.paths.proofs.Firsts.{first-cost, first-route, least-short}
+use Rattle.floor.specs.declared.Floor.{Floor}
+use Rattle.floor.specs.Place.{cells}
+use Rattle.floor.specs.Step.{leastStep, graph}
+use Rattle.floor.proofs.Laws.{lawful}
+use Rattle.search.specs.declared.Answer.{Answer}
+use Rattle.search.specs.declared.Answer.the-variants.{Found, None}
+use Rattle.search.specs.declared.Band.{Band}
+use Rattle.search.specs.Bands.{AmongCells, IsLeast, belowIn, Looked, empty, looked, Rounds}
+use Rattle.search.specs.Cuts.{keyBelow}
+use Rattle.search.specs.Walks.{CanWalk}
+use Rattle.search.specs.Search.{Question, rowOf, answered}
+use Rattle.search.specs.Last.{CanStop, StoppedAt, CanArrive, Arrived, CanFinish, Finished}
+use Rattle.search.proofs.Fronts.{low-room, low-rises, next-wave, next-counted, can-look}
+use Rattle.search.proofs.Tables.{cheaper-most}
+use Rattle.search.proofs.Ranks.{rank-bound, can-find}
+use Rattle.search.proofs.Finishing.{table, right, row-none, left-all, goal-rank, row-found, left-goal, row-stopped, left-limit}
+
+-- the first route has fewer steps than there are cells
+pub short-route : {f : Floor} {m : List ℕ} {s goal : ℕ} {costs : List ℕ} → CanWalk f m s goal costs → length (firstRoute (graph f m) s costs goal) < cells f
+short-route {f} {m} {s} {goal} {costs} w =
+    let law = lawful f m (w .passed) in
+    let e = w .agrees .there goal (omega (arith, w .right .covers, w .inside)) (w .below) in
+    let k : getD (w .t) goal 0 ≢ MARK = omega (arith, w .top, w .below) in
+    let r = first-route law s (w .t) (w .starts) (w .right) goal (w .inside) k .route in
+    let c = first-cost law s (w .t) (w .starts) (w .right) goal (w .inside) k in
+    let n = least-short law s (w .t) (w .starts) (w .right) goal (w .inside) (firstRoute (graph f m) s (w .t) goal) r c in
+    omega (arith, n, ap length (first-same law s (w .starts) (w .t) (w .right) costs (w .bound) (w .agrees) (w .top) goal (w .inside) (omega (arith, w .below))))
+
+module _ {f : Floor} {m : List ℕ} {q : Question} {costs work route : List ℕ} {b : Band} (c : CanFinish f m q costs work route b) where
+  abbrev r : Rounds f m (q .start) (q .goal) (q .limit) costs work b
+  r = c .rounds
+
+  -- the list holds cells of the floor, whose numbers fit 32 bits
+  pub listed : AmongCells (length costs) work (b .front .from) (b .front .len)
+  listed = can-look (r .between) (q .goal) (c .inside) .among
+
+  pub few : cells f ≤ MARK
+  few = lawful f m (r .between .passed) .cells-fit
+
+  pub covers : length costs ≡ cells f
+  covers = r .between .wave .covers
+
+  -- no cell is open
+  pub finished-none : b .front .len ≡ 0 → Finished f m q route (None (b .front .settled)) costs route
+  finished-none z =
+      let x = r .between in
+      let e = row-none f m q costs work (b .front) x (c .inside) z (r .goal-open) (r .within) in
+      record {
+        table = table f m q costs work (b .front) x;
+        right = right f m q costs work (b .front) x;
+        answer = sym (ap (λ (a : row.Answer). answered (a .kind) a) e);
+        costs-left = sym (ap (λ (a : row.Answer). costsLeft (table f m q costs work (b .front) x) (a .settled)) e ∙ left-all f m q costs work (b .front) x (c .inside) z (r .goal-open) (r .within));
+        route-left = sym (ap (λ (a : row.Answer). a .route ++ drop (length (a .route)) route) e);
+      }
+
+  -- some cell is open: the costs are right below the band's bound
+  module _ (n : b .front .len ≡ 0 → ⊥) where
+    record Last : Type 0 where
+      low : ℕ
+      least : IsLeast costs work (b .front .from) (b .front .len) low
+      bound : b .bound ≡ low + leastStep
+      below : b .below ≡ belowIn costs work (b .front .from) (b .front .len) (b .bound)
+      more : b .more ≡ (not (ltb (getD costs (q .goal) 0) (b .bound)) && leb (b .front .settled + b .below) (q .limit))
+
+    last : Last
+    last = go (r .last)
+      where
+        go : Looked costs work (q .goal) (q .limit) (b .front) b → Last
+        go (empty z e t) = absurd (n z)
+        go (looked low p l e h k t) = record { low = low; least = l; bound = h; below = k; more = t }
+
+    top : b .bound ≤ MARK
+    top = omega (arith, last .bound, low-room (r .between) (last .least))
+
+    rises : b .front .bound ≤ b .bound
+    rises = omega (arith, last .bound, low-rises (r .between) (last .least))
+
+    agrees : Agree (table f m q costs work (b .front) (r .between)) costs (b .bound)
+    agrees =
+        subst (Agree (table f m q costs work (b .front) (r .between)) costs) (sym (last .bound))
+        (wave-agrees (lawful f m (r .between .passed)) (q .start) (table f m q costs work (b .front) (r .between)) (right f m q costs work (b .front) (r .between))
+        (next-wave (r .between) (last .least)))
+
+    counted : b .front .settled + b .below ≡ cheaperThan costs (b .bound)
+    counted = omega (arith, last .below, rw (sym (last .bound)) at (next-counted (r .between) (last .least)))
+
+    abbrev pub goalPlace : ℕ
+    goalPlace = b .front .settled + keyBelow costs work (b .front .from) (b .front .len) (key costs (q .goal))
+
+    -- the limit falls in the band
+    pub can-stop : q .limit < cheaperThan costs (b .bound) → CanStop costs work (q .limit) b
+    can-stop l = record {
+      among = listed;
+      small = omega (arith, covers, few);
+      within = r .within;
+      find = can-find (r .between) (b .bound) rises top (q .limit - b .front .settled) (omega (arith, r .within));
+    }
+
+    pub finished-stopped : (getD costs (q .goal) 0 < b .bound → q .limit ≤ goalPlace) → {a : Answer} {costs′ : List ℕ}
+        → StoppedAt costs work (q .limit) b a costs′ → Finished f m q route a costs′ route
+    finished-stopped later {a} {costs′} s =
+        let x = r .between in
+        let t = table f m q costs work (b .front) x in
+        let i = s .next in
+        let e = row-stopped f m q costs work (b .front) x (b .bound) agrees top (c .inside) (s .k) (i .from-low) (i .to-high) (omega (arith, i .before, r .within))
+        (omega (arith, i .after, r .within)) (r .goal-open) later in
+        let l = left-limit f m q costs work (b .front) x (b .bound) agrees top (c .inside) (s .k) (i .from-low) (i .to-high) (omega (arith, i .before, r .within))
+        (omega (arith, i .after, r .within)) (r .goal-open) later in
+        record {
+          table = t;
+          right = right f m q costs work (b .front) x;
+          answer = s .answer ∙ sym (ap (λ (a : row.Answer). answered (a .kind) a) e);
+          costs-left = s .left ∙ sym (ap (λ (a : row.Answer). costsLeft t (a .settled)) e ∙ l);
+          route-left = sym (ap (λ (a : row.Answer). a .route ++ drop (length (a .route)) route) e);
+        }
+
+    -- the goal is not below the band's bound: the band was the last because of the limit
+    pub limit-falls : b .bound ≤ getD costs (q .goal) 0 → q .limit < cheaperThan costs (b .bound)
+    limit-falls h =
+        let e = rw (le-ltb (getD costs (q .goal) 0) (b .bound) h) at (sym (r .ended) ∙ last .more) in
+        omega (arith, counted, leb-false (b .front .settled + b .below) (q .limit) (sym e))
+
+    -- the goal is below it
+    module _ (below : getD costs (q .goal) 0 < b .bound) where
+      pub can-walk : CanWalk f m (q .start) (q .goal) costs
+      can-walk = record {
+        passed = r .between .passed;
+        starts = r .between .starts;
+        inside = c .inside;
+        t = table f m q costs work (b .front) (r .between);
+        right = right f m q costs work (b .front) (r .between);
+        bound = b .bound;
+        top = top;
+        agrees = agrees;
+        below = below;
+      }
+
+      pub goal-before : goalPlace < cheaperThan costs (b .bound)
+      goal-before =
+          let t = table f m q costs work (b .front) (r .between) in
+          let g = right f m q costs work (b .front) (r .between) .covers in
+          let k = key-to costs (q .goal) (b .bound) (omega (arith, few, c .inside)) below in
+          let p = place-rank t costs (b .bound) agrees top (omega (arith, g, few)) (q .goal) (omega (arith, g, c .inside)) below in
+          let d = place-early t costs (b .bound) agrees top (omega (arith, g, few)) (b .bound * 4294967296) (omega arith) (q .goal) (omega (arith, g, c .inside)) k in
+          omega (arith, p, d, goal-rank f m q costs work (b .front) (r .between) (b .bound) agrees top (c .inside) below (r .goal-open), rank-bound costs (omega (arith, covers, few)) (b .bound))
+
+      pub place-small : goalPlace < MARK
+      place-small = omega (arith, goal-before, cheaper-most costs (b .bound), covers, few)
+
+      pub finished-found : {i : ℕ} → i ≡ goalPlace → goalPlace < q .limit → {a : Answer} {costs′ route′ : List ℕ}
+          → Arrived f m (q .start) (q .goal) i costs route a costs′ route′ → Finished f m q route a costs′ route′
+      finished-found {i} p w {a} y =
+          let x = r .between in
+          let t = table f m q costs work (b .front) x in
+          let e = row-found f m q costs work (b .front) x (b .bound) agrees top (c .inside) below (r .goal-open) w in
+          let l = left-goal f m q costs work (b .front) x (b .bound) agrees top (c .inside) below (r .goal-open) w in
+          record {
+            table = t;
+            right = right f m q costs work (b .front) x;
+            answer =
+                y .answer ∙ ap (λ (n : ℕ). Found (suc n) (getD costs (q .goal) 0) (length (firstRoute (graph f m) (q .start) costs (q .goal)))) p
+                ∙ sym (ap (λ (a : row.Answer). answered (a .kind) a) e);
+            costs-left = y .left ∙ sym (ap (λ (a : row.Answer). costsLeft t (a .settled)) e ∙ l);
+            route-left = y .written ∙ sym (ap (λ (a : row.Answer). a .route ++ drop (length (a .route)) route) e);
+          }

@@ -1,0 +1,92 @@
+-- A loop over the listed cells counts them one by one; the table that a cut leaves is built cell by cell.
+use mathlib.Core.Path.{_≡_, refl, sym, _∙_}
+use mathlib.Core.Bool.{Bool, cond}
+use mathlib.Core.List.{List, [], _∷_, _++_, append-nil}
+use Prim.Native.Nat.{ℕ, suc, _+_, _*_, _≤_, _<_}
+use native.Mathlib.Omega.{arith}
+use native.Mathlib.Numerals.{add-one}
+use borrow.Author.Tests.{lt-ltb, le-ltb}
+use lib.Dec.{ltb}
+use lib.ListN.{length, getD, set, take, drop, length-append, length-drop}
+use lib.Seq.{slice, slice-empty, take-suc, length-take-le, drop-append-le, drop-cons, drop-length, append-snoc, getD-at, set-at}
+use Rattle.paths.specs.Below.{tick, values}
+use Rattle.paths.specs.Graph.{MARK}
+use Rattle.paths.specs.Order.{key}
+use Rattle.paths.specs.Cut.{tally, cut}
+use Rattle.paths.proofs.Below.{length-values}
+use Rattle.search.specs.Cuts.{keyBelow}
+
+slice-snoc : (a i : ℕ) (l : List ℕ) → a ≤ i → i < length l → slice a (i + 1) l ≡ slice a i l ++ (getD l i 0 ∷ [])
+slice-snoc a i l h k = rw (add-one, take-suc l i 0 k) (drop-append-le a (take i l) (getD l i 0 ∷ []) (omega (arith, length-take-le i l (omega arith))))
+
+tally-append : (p : ℕ → Bool) (a b : List ℕ) → tally p (a ++ b) ≡ tally p a + tally p b
+tally-append p [] b = omega arith
+tally-append p (u ∷ a) b = omega (arith, tally-append p a b)
+
+module _ (costs work : List ℕ) (from k : ℕ) where
+  pub key-below-none : keyBelow costs work from 0 k ≡ 0
+  unfolding keyBelow
+  key-below-none = let e : from + 0 ≡ from = omega arith in rw (e, slice-empty from work)
+
+  -- one listed cell more, whose key is below k, or is not
+  module _ (i : ℕ) (h : from + i < length work) where
+    more : keyBelow costs work from (i + 1) k ≡ keyBelow costs work from i k + tick (ltb (key costs (getD work (from + i) 0)) k)
+    unfolding keyBelow
+    more =
+        let v = getD work (from + i) 0 in
+        let e : from + (i + 1) ≡ from + i + 1 = omega arith in
+        rw (e, slice-snoc from (from + i) work (omega arith) h) (omega (arith, tally-append (λ u. ltb (key costs u) k) (slice from (from + i) work) (v ∷ [])))
+
+    pub key-below-counted : getD costs (getD work (from + i) 0) 0 * 4294967296 + getD work (from + i) 0 < k
+        → keyBelow costs work from (i + 1) k ≡ keyBelow costs work from i k + 1
+    unfolding key
+    key-below-counted l = rw (more, lt-ltb (key costs (getD work (from + i) 0)) k l)
+
+    pub key-below-passed : k ≤ getD costs (getD work (from + i) 0) 0 * 4294967296 + getD work (from + i) 0
+        → keyBelow costs work from (i + 1) k ≡ keyBelow costs work from i k
+    unfolding key
+    key-below-passed l = rw (more, le-ltb (key costs (getD work (from + i) 0)) k l) (omega arith)
+
+-- what a cell keeps when the costs are cut at k
+abbrev left : List ℕ → ℕ → ℕ → ℕ
+left costs k v = cond (ltb (key costs v) k) (getD costs v 0) MARK
+
+-- the costs, cut up to cell i
+unfoldable pub cutTo : List ℕ → ℕ → ℕ → List ℕ
+cutTo costs k i = values (left costs k) i ++ drop i costs
+
+module _ (costs : List ℕ) (k : ℕ) where
+  pub cut-none : cutTo costs k 0 ≡ costs
+  unfolding cutTo
+  cut-none = refl
+
+  pub cut-all : cutTo costs k (length costs) ≡ cut costs k
+  unfolding cutTo cut
+  cut-all = rw (drop-length costs, append-nil (values (left costs k) (length costs)))
+
+  pub length-cut : (i : ℕ) → i ≤ length costs → length (cutTo costs k i) ≡ length costs
+  unfolding cutTo
+  length-cut i h = simp (length-append, length-values, length-drop) (omega arith)
+
+  module _ (i : ℕ) (h : i < length costs) where
+    opened : cutTo costs k i ≡ values (left costs k) i ++ getD costs i 0 ∷ drop (suc i) costs
+    unfolding cutTo
+    opened = rw (drop-cons costs i 0 h)
+
+    closed : cutTo costs k (i + 1) ≡ values (left costs k) i ++ left costs k i ∷ drop (suc i) costs
+    unfolding cutTo
+    closed = rw add-one (append-snoc (values (left costs k) i) (left costs k i) (drop (suc i) costs))
+
+    -- the cell at hand has its cost still
+    pub cut-at : getD (cutTo costs k i) i 0 ≡ getD costs i 0
+    cut-at = rw opened (getD-at (values (left costs k) i) (getD costs i 0) (drop (suc i) costs) 0 i (length-values (left costs k) i))
+
+    -- and keeps it, or loses it
+    pub cut-kept : getD costs i 0 * 4294967296 + i < k → cutTo costs k i ≡ cutTo costs k (i + 1)
+    unfolding key
+    cut-kept l = opened ∙ sym (rw (lt-ltb (getD costs i 0 * 4294967296 + i) k l) at closed)
+
+    pub cut-lost : k ≤ getD costs i 0 * 4294967296 + i → set (cutTo costs k i) i MARK ≡ cutTo costs k (i + 1)
+    unfolding key
+    cut-lost l = rw (opened, set-at (values (left costs k) i) (getD costs i 0) (drop (suc i) costs) MARK i (length-values (left costs k) i))
+        (sym (rw (le-ltb (getD costs i 0 * 4294967296 + i) k l) at closed))

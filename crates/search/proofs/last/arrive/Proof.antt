@@ -1,0 +1,84 @@
+-- The four calls in a row: the route has fewer steps than there are cells, so that it fits, and the key after the goal's fits 64 bits.
+use mathlib.Core.Path.{_≡_, sym, _∙_, ap}
+use Prim.Native.Nat.{ℕ, _+_}
+use native.Mathlib.Numerals.{add-one}
+use native.Mathlib.Omega.{arith}
+use borrow.Author.Needs.{needs}
+use lib.ListN.{length, getD, drop}
+use mathlib.Core.List.{List, _++_}
+use Rattle.paths.specs.First.{firstRoute}
+use Rattle.paths.specs.Order.{key}
+use Rattle.paths.specs.Cut.{cut}
+use Rattle.floor.specs.Step.{graph}
+use Rattle.floor.proofs.Laws.{lawful}
+use Rattle.search.proofs.Answering.{short-route}
+use Rattle.search.proofs.last.arrive.Statement.{statement}
+use Rattle.search.proofs.last.arrive.Tie as tie
+
+mul-cost : tie.Need-mul-cost
+mul-cost c = search needs
+
+slice-read-cost : tie.Need-slice-read-cost
+slice-read-cost c = search needs
+
+count-steps-requires : tie.Need-count-steps-requires
+count-steps-requires c κs = search needs
+
+write-route-requires : tie.Need-write-route-requires
+write-route-requires c κs =
+    let n = c .before .before in
+    let s = n .before .before .before .before .before .before in
+    (s .pre .walk, (n .count-steps .ensures, omega (arith, n .count-steps .ensures, short-route (s .pre .walk), s .pre .room)))
+
+key-of-requires : tie.Need-key-of-requires
+key-of-requires c κs =
+    let s = c .before .before .before .before .before .before .before .before .before .before .before .before in
+    omega (arith, s .pre .walk .inside, lawful (s .args .f) (s .args .map .now) (s .pre .walk .passed) .cells-fit)
+
+add-trim : tie.Need-add-trim
+add-trim c =
+    let s = c .before .before .before .before .before .before .before .before .before .before .before .before .before in
+    omega (arith, c .key-of .ensures, s .pre .walk .below, s .pre .walk .top, s .pre .walk .inside, lawful (s .args .f) (s .args .map .now) (s .pre .walk .passed) .cells-fit)
+
+trim-requires : tie.Need-trim-requires
+trim-requires c κs =
+    let s = c .before .before .before .before .before .before .before .before .before .before .before .before .before in
+    omega (arith, s .pre .covers, lawful (s .args .f) (s .args .map .now) (s .pre .walk .passed) .cells-fit)
+
+add-t10 : tie.Need-add-t10
+add-t10 c = search needs
+
+same-length : tie.Need-same-length
+same-length c = search needs
+
+same-length-2 : tie.Need-same-length-2
+same-length-2 c = search needs
+
+returns : tie.Need-returns
+unfolding key
+returns c =
+    let t = c .before .before in
+    let k = t .before in
+    let n = k .before .before .before .before .before .before .before in
+    let w = k .before .before .before .before in
+    record {
+      answer = rw (add-one, n .count-steps .ensures);
+      left = t .trim .ensures ∙ rw (k .key-of .ensures, add-one);
+      written = w .write-route .ensures ∙ rw (n .count-steps .ensures);
+    }
+
+pub arrive-spec : {M : Type 1} → statement M
+arrive-spec =
+    tie.close
+    (tie.spec
+    mul-cost
+    slice-read-cost
+    count-steps-requires
+    write-route-requires
+    key-of-requires
+    add-trim
+    trim-requires
+    add-t10
+    same-length
+    same-length-2
+    returns)

@@ -1,0 +1,5 @@
+pub mod Bands
+pub mod Cuts
+pub mod Walks
+pub mod Search
+pub mod Last

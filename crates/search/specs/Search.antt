@@ -1,0 +1,74 @@
+-- What the search answers and leaves: 01, "The search".
+use mathlib.Core.Path.{_≡_}
+use mathlib.Core.List.{List, [], _∷_, _++_}
+use Prim.Native.Nat.{ℕ, _*_}
+use lib.Dec.{ltb}
+use lib.ListN.{length, drop, replicate}
+use Rattle.paths.specs.Table.{Right}
+use Rattle.paths.specs.Answer as row
+use Rattle.paths.specs.Answer.{Kind, answerOf, costsLeft}
+use Rattle.floor.specs.declared.Floor.{Floor}
+use Rattle.floor.specs.declared.Screen.{Screen}
+use Rattle.floor.specs.declared.Screen.the-variants.{Passed}
+use Rattle.floor.specs.Place.{cells}
+use Rattle.floor.specs.Step.{graph}
+use Rattle.floor.specs.Refusal.{Line, line, screen, questionLines}
+use Rattle.search.specs.declared.Answer.{Answer}
+use Rattle.search.specs.declared.Answer.the-variants.{Found, None, Stopped}
+
+-- a question: start, goal and limit
+pub record Question : Type 0 where
+  pub start : ℕ
+  pub goal : ℕ
+  pub limit : ℕ
+
+abbrev pub question : ℕ → ℕ → ℕ → Question
+question s g k = record { start = s; goal = g; limit = k }
+
+-- the three rooms' contents
+pub record Rooms : Type 0 where
+  pub costs : List ℕ
+  pub work : List ℕ
+  pub route : List ℕ
+
+abbrev pub rooms : List ℕ → List ℕ → List ℕ → Rooms
+rooms c w r = record { costs = c; work = w; route = r }
+
+-- 9, 10 and 11: a room is too short, by the lengths of the rooms
+abbrev pub roomLines : Floor → ℕ → ℕ → ℕ → List Line
+roomLines f costs work route = line 9 (ltb costs (cells f)) 0 ∷ line 10 (ltb work (2 * cells f)) 0 ∷ line 11 (ltb route (cells f)) 0 ∷ []
+
+-- 1 to 11
+abbrev pub lengthLines : Floor → List ℕ → ℕ → ℕ → ℕ → ℕ → ℕ → List Line
+lengthLines f m start goal costs work route = questionLines f m start goal ++ roomLines f costs work route
+
+abbrev pub searchLines : Floor → List ℕ → Question → Rooms → List Line
+searchLines f m q r = lengthLines f m (q .start) (q .goal) (length (r .costs)) (length (r .work)) (length (r .route))
+
+-- the row of 01's table that the right table of the start gives
+abbrev pub rowOf : Floor → List ℕ → Question → List ℕ → row.Answer
+rowOf f m q t = answerOf (graph f m) (q .start) t (q .goal) (q .limit)
+
+-- a row as the answer of the search: settled count, number returned and route length
+abbrev pub answered : Kind → row.Answer → Answer
+answered Kind.found a = Found (a .settled) (a .number) (length (a .route))
+answered Kind.none a = None (a .settled)
+answered Kind.stopped a = Stopped (a .settled) (a .number)
+
+abbrev pub outcome : Screen → row.Answer → Answer
+outcome Passed a = answered (a .kind) a
+outcome (Screen.Refused n p) a = Answer.Refused n p
+
+-- the rooms afterwards: a refusal changes nothing; else the costs left, zeros, and the route, each with the rest as it was
+abbrev pub after : Floor → List ℕ → row.Answer → Rooms → Screen → Rooms
+after f t a r Passed =
+    rooms (costsLeft t (a .settled) ++ drop (cells f) (r .costs)) (replicate (2 * cells f) 0 ++ drop (2 * cells f) (r .work))
+    (a .route ++ drop (length (a .route)) (r .route))
+after f t a r (Screen.Refused n p) = r
+
+-- The promise. The table is the right one of the start, unless the question is refused
+pub record Searched (f : Floor) (m : List ℕ) (q : Question) (r : Rooms) (a : Answer) (r′ : Rooms) : Type 0 where
+  pub table : List ℕ
+  pub right : screen (searchLines f m q r) ≡ Passed → Right (graph f m) (q .start) table
+  pub answer : a ≡ outcome (screen (searchLines f m q r)) (rowOf f m q table)
+  pub leaves : r′ ≡ after f table (rowOf f m q table) r (screen (searchLines f m q r))

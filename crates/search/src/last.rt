@@ -1,0 +1,87 @@
+// The last band: it is cut at the goal or at the limit, and its cells are not expanded.
+ghost use mathlib.Core.Path.{_≡_};
+ghost use lib.ListN.{length};
+ghost use Rattle.paths.specs.Graph.{MARK};
+ghost use Rattle.search.specs.Last.{CanStop, StoppedAt, CanArrive, Arrived, CanFinish, Finished};
+ghost use Rattle.search.specs.Search.{question};
+use crate::Answer;
+use crate::Band;
+use crate::cuts::count_before;
+use crate::cuts::find_key;
+use crate::cuts::key_of;
+use crate::cuts::trim;
+use crate::walks::count_steps;
+use crate::walks::write_route;
+use floor::Floor;
+
+// The limit falls in the band: the cell at that place of L gives the floor, and it and all that come after it lose their costs.
+fn stop_at_limit(limit: u32, costs: &mut [u32], work: &[u32], band: Band) -> Answer
+    requires { ⌜ CanStop (now costs) (now work) limit band ⌝ }
+    ensures { λ r. ⌜ StoppedAt (now (costs .entry)) (now (work .entry)) limit band r (now (costs .exit)) ⌝ }
+{
+    let front = band.front;
+    let bound = band.bound;
+    let from = front.from;
+    let len = front.len;
+    let settled = front.settled;
+    let low = (front.bound as u64) * 4294967296;
+    let high = (bound as u64) * 4294967296;
+    let place = limit as usize - settled;
+    let key = find_key(costs, work, from, len, low, high, place);
+    trim(costs, key);
+    Answer::Stopped(limit as usize, (key / 4294967296) as u32)
+}
+
+// The goal is settled, with `place` cells before it: the route is written, and the cells after the goal lose their costs.
+fn arrive(
+    f: Floor,
+    map: &[u8],
+    start: usize,
+    goal: usize,
+    place: usize,
+    costs: &mut [u32],
+    route: &mut [u8],
+) -> Answer
+    requires { ⌜ CanArrive f (now map) start goal place (now costs) (now route) ⌝ }
+    ensures { λ r. ⌜ Arrived f (now (map .entry)) start goal place (now (costs .entry)) (now (route .entry)) r (now (costs .exit)) (now (route .exit)) ⌝ }
+{
+    let cost = costs[goal];
+    let steps = count_steps(f, map, costs, start, goal);
+    write_route(f, map, costs, start, goal, steps, route);
+    trim(costs, key_of(cost, goal) + 1);
+    Answer::Found(place + 1, cost, steps)
+}
+
+// The answer from the last band, with the costs cut and, if the goal is found, the route written.
+pub(crate) fn finish(
+    f: Floor,
+    map: &[u8],
+    start: usize,
+    goal: usize,
+    limit: u32,
+    costs: &mut [u32],
+    work: &[u32],
+    route: &mut [u8],
+    band: Band,
+) -> Answer
+    requires { ⌜ CanFinish f (now map) (question start goal limit) (now costs) (now work) (now route) band ⌝ }
+    ensures { λ r. ⌜ Finished f (now (map .entry)) (question start goal limit) (now (route .entry)) r (now (costs .exit)) (now (route .exit)) ⌝ }
+{
+    let front = band.front;
+    let from = front.from;
+    let len = front.len;
+    let settled = front.settled;
+    if len == 0 {
+        return Answer::None(settled);
+    }
+    let cost = costs[goal];
+    if cost < band.bound {
+        let before = count_before(costs, work, from, len, key_of(cost, goal));
+        let place = settled + before;
+        if place < limit as usize {
+            return arrive(f, map, start, goal, place, costs, route);
+        }
+        return stop_at_limit(limit, costs, work, band);
+    }
+    stop_at_limit(limit, costs, work, band)
+}

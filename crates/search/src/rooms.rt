@@ -1,0 +1,100 @@
+// The entry: refusals first, then the search on the parts of the rooms that it needs.
+ghost use mathlib.Core.Path.{_≡_};
+ghost use lib.ListN.{length, replicate};
+ghost use Prim.Native.Nat.{_*_, _≤_, _<_};
+ghost use Rattle.floor.specs.Place.{cells};
+ghost use Rattle.floor.specs.Refusal.{HasPassed, screen};
+ghost use Rattle.search.specs.Last.{Finished};
+ghost use Rattle.search.specs.Search.{question, rooms, lengthLines, searchLines, Searched};
+use crate::Answer;
+use crate::bands::fill;
+use crate::bands::settle;
+use crate::last::finish;
+use floor::Floor;
+use floor::Screen;
+
+// Refusals 1 to 8 of the question, then 9 to 11 of the rooms' lengths.
+fn screen_search(
+    f: Floor,
+    map: &[u8],
+    start: usize,
+    goal: usize,
+    costs: usize,
+    work: usize,
+    route: usize,
+) -> Screen
+    ensures { λ r. ⌜ r ≡ screen (lengthLines f (now (map .entry)) start goal costs work route) ⌝ }
+{
+    let question = floor::refusals::screen_question(f, map, start, goal);
+    match question {
+        Screen::Refused(number, place) => Screen::Refused(number, place),
+        Screen::Passed => {
+            let cells = map.len();
+            if costs < cells {
+                return Screen::Refused(9, 0);
+            }
+            if work < 2 * cells {
+                return Screen::Refused(10, 0);
+            }
+            if route < cells {
+                return Screen::Refused(11, 0);
+            }
+            Screen::Passed
+        }
+    }
+}
+
+fn search_rooms(
+    f: Floor,
+    map: &[u8],
+    start: usize,
+    goal: usize,
+    limit: u32,
+    costs: &mut [u32],
+    work: &mut [u32],
+    route: &mut [u8],
+) -> Answer
+    requires { ⌜ HasPassed f (now map) × (start < cells f) × (goal < cells f) ⌝ }
+    requires { ⌜ (length (now costs) ≡ cells f) × (length (now work) ≡ 2 * cells f) × (cells f ≤ length (now route)) ⌝ }
+    ensures finished { λ r. ⌜ Finished f (now (map .entry)) (question start goal limit) (now (route .entry)) r (now (costs .exit)) (now (route .exit)) ⌝ }
+    ensures cleared { λ r. ⌜ now (work .exit) ≡ replicate (2 * cells f) 0 ⌝ }
+{
+    let band = settle(f, map, start, goal, limit, costs, work);
+    let answer = finish(f, map, start, goal, limit, costs, work, route, band);
+    fill(work, 0);
+    answer
+}
+
+pub fn search(
+    f: Floor,
+    map: &[u8],
+    start: u32,
+    goal: u32,
+    limit: u32,
+    costs: &mut [u32],
+    work: &mut [u32],
+    route: &mut [u8],
+) -> Answer
+    ensures { λ r. ⌜ Searched f (now (map .entry)) (question start goal limit) (rooms (now (costs .entry)) (now (work .entry)) (now (route .entry))) r (rooms (now (costs .exit)) (now (work .exit)) (now (route .exit))) ⌝ }
+{
+    let from = start as usize;
+    let to = goal as usize;
+    let screen = screen_search(f, map, from, to, costs.len(), work.len(), route.len());
+    match screen {
+        Screen::Refused(number, place) => Answer::Refused(number, place),
+        Screen::Passed => {
+            let cells = map.len();
+            let places = 2 * cells;
+            search_rooms(
+                f,
+                map,
+                from,
+                to,
+                limit,
+                &mut costs[..cells],
+                &mut work[..places],
+                route,
+            )
+        }
+    }
+}
