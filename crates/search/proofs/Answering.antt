@@ -1,22 +1,19 @@
 -- The last band as the promise asks: what the calls of the last band need, and their answers as rows of 01's table.
-use mathlib.Core.Path.{_≡_, refl, sym, _∙_, ap, subst}
+use mathlib.Core.Path.{_≡_, sym, _∙_, ap, subst}
 use mathlib.Core.Logic.{_≢_}
-use mathlib.Core.Bool.{false, true, not, _&&_}
-use mathlib.Core.List.{List, [], _++_}
+use mathlib.Core.Bool.{not, _&&_}
+use mathlib.Core.List.{List, _++_}
 use Prim.Native.Nat.{ℕ, suc, _+_, _-_, _*_, _≤_, _<_}
 use native.Mathlib.Omega.{arith}
-use native.Mathlib.Decide.{decLt}
 use borrow.Author.Tests.{leb-false, le-ltb}
 use lib.Dec.{leb, ltb}
 use lib.ListN.{length, getD, drop}
-use lib.Seq.{slice, slice-empty}
 use Rattle.paths.specs.Graph.{MARK}
 use Rattle.paths.specs.First.{firstRoute}
-use Rattle.paths.specs.Order.{key, L, place}
+use Rattle.paths.specs.Order.{key}
 use Rattle.paths.specs.Answer as row
-use Rattle.paths.specs.Answer.{Kind, costsLeft}
-use Rattle.paths.specs.Cut.{cheaperThan, rank, Agree}
-use Rattle.paths.specs.Wave.{Wave}
+use Rattle.paths.specs.Answer.{costsLeft}
+use Rattle.paths.specs.Cut.{cheaperThan, Agree}
 use Rattle.paths.proofs.Answers.{first-same}
 use Rattle.paths.proofs.Cuts.{wave-agrees, key-to, place-rank, place-early}
 use Rattle.paths.proofs.Firsts.{first-cost, first-route, least-short}
@@ -30,8 +27,8 @@ use Rattle.search.specs.declared.Band.{Band}
 use Rattle.search.specs.Bands.{AmongCells, IsLeast, belowIn, Looked, empty, looked, Rounds}
 use Rattle.search.specs.Cuts.{keyBelow}
 use Rattle.search.specs.Walks.{CanWalk}
-use Rattle.search.specs.Search.{Question, rowOf, answered}
-use Rattle.search.specs.Last.{CanStop, StoppedAt, CanArrive, Arrived, CanFinish, Finished}
+use Rattle.search.specs.Search.{Question, answered}
+use Rattle.search.specs.Last.{CanStop, StoppedAt, Arrived, CanFinish, Finished}
 use Rattle.search.proofs.Fronts.{low-room, low-rises, next-wave, next-counted, can-look}
 use Rattle.search.proofs.Tables.{cheaper-most}
 use Rattle.search.proofs.Ranks.{rank-bound, can-find}

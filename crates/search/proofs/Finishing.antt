@@ -1,6 +1,5 @@
 -- The row of 01's table after the last band: no cell is open, or the wave's bound rises once more and ranks by key are places in L.
-use mathlib.Core.Path.{_≡_, refl, sym, _∙_, ap, subst}
-use mathlib.Core.Logic.{_≢_}
+use mathlib.Core.Path.{_≡_, sym, _∙_, ap, subst}
 use mathlib.Core.List.{List, []}
 use Prim.Native.Nat.{ℕ, suc, _+_, _*_, _/_, _≤_, _<_}
 use native.Mathlib.Nat.{add-zero}
@@ -15,7 +14,7 @@ use Rattle.paths.specs.Table.{Right}
 use Rattle.paths.specs.Order.{key}
 use Rattle.paths.specs.Answer as row
 use Rattle.paths.specs.Answer.{Kind, costsLeft}
-use Rattle.paths.specs.Wave.{Wave, mark}
+use Rattle.paths.specs.Wave.{Wave}
 use Rattle.paths.specs.Cut.{cheaperThan, rank, cut, Agree}
 use Rattle.paths.proofs.Below.{count-same}
 use Rattle.paths.proofs.Meaning.{one-right-table}
@@ -25,9 +24,8 @@ use Rattle.paths.proofs.Fronts.{front-rank}
 use Rattle.paths.proofs.Answers.{answer-found, left-found, next, answer-stopped, left-stopped, answer-none, left-none}
 use Rattle.floor.specs.declared.Floor.{Floor}
 use Rattle.floor.specs.Place.{cells}
-use Rattle.floor.specs.Step.{leastStep, greatestStep, graph}
+use Rattle.floor.specs.Step.{leastStep, graph}
 use Rattle.floor.proofs.Laws.{lawful}
-use Rattle.search.specs.declared.Band.{Band}
 use Rattle.search.specs.declared.Front.{Front}
 use Rattle.search.specs.Bands.{Between}
 use Rattle.search.specs.Cuts.{keyBelow}

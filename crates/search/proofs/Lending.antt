@@ -1,9 +1,9 @@
 -- The promise from the rooms' parts: a refusal leaves everything as it was, and else each part is followed by the rest of its room.
-use mathlib.Core.Path.{_≡_, refl, sym, _∙_, ap}
+use mathlib.Core.Path.{_≡_, sym, _∙_, ap}
 use mathlib.Core.List.{List, [], _++_}
 use Prim.Native.Nat.{ℕ, _*_, _≤_}
 use native.Mathlib.Omega.{arith}
-use lib.Dec.{ltb, nltb→le}
+use lib.Dec.{nltb→le}
 use lib.ListN.{length, drop, replicate}
 use Rattle.floor.specs.declared.Floor.{Floor}
 use Rattle.floor.specs.declared.Screen.{Screen}

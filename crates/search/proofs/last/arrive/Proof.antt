@@ -1,15 +1,9 @@
 -- The four calls in a row: the route has fewer steps than there are cells, so that it fits, and the key after the goal's fits 64 bits.
-use mathlib.Core.Path.{_≡_, sym, _∙_, ap}
-use Prim.Native.Nat.{ℕ, _+_}
+use mathlib.Core.Path.{_∙_}
 use native.Mathlib.Numerals.{add-one}
 use native.Mathlib.Omega.{arith}
 use borrow.Author.Needs.{needs}
-use lib.ListN.{length, getD, drop}
-use mathlib.Core.List.{List, _++_}
-use Rattle.paths.specs.First.{firstRoute}
 use Rattle.paths.specs.Order.{key}
-use Rattle.paths.specs.Cut.{cut}
-use Rattle.floor.specs.Step.{graph}
 use Rattle.floor.proofs.Laws.{lawful}
 use Rattle.search.proofs.Answering.{short-route}
 use Rattle.search.proofs.last.arrive.Statement.{statement}

@@ -1,6 +1,6 @@
 -- What `screen_question` found stands, and after `Passed` the lines of the rooms' lengths are left; each return decides one of them, in their order.
 use mathlib.Core.Path.{_≡_, sym, _∙_}
-use Prim.Native.Nat.{_*_, _≤_, _<_}
+use Prim.Native.Nat.{_*_}
 use native.Mathlib.Omega.{arith}
 use borrow.Author.Needs.{needs}
 use borrow.Author.Tests.{lt-ltb, le-ltb}

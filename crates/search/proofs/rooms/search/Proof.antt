@@ -1,7 +1,5 @@
 -- A refusal is given at once; else the parts that are lent are as long as the core asks, and the rest of each room stays.
 use mathlib.Core.Path.{_≡_, sym, _∙_}
-use mathlib.Core.List.{List}
-use Prim.Native.Nat.{ℕ}
 use native.Mathlib.Omega.{arith}
 use borrow.Author.Needs.{needs}
 use lib.ListN.{length}

@@ -1,0 +1,60 @@
+-- What the check of a claimed cost table answers.
+use mathlib.Core.Path.{_≡_}
+use mathlib.Core.Logic.{_≢_}
+use mathlib.Core.Bool.{Bool, cond, not}
+use mathlib.Core.List.{List, [], _∷_, _++_}
+use mathlib.Core.Option.{Option, none, some}
+use Prim.Native.Nat.{ℕ, _<_}
+use lib.Dec.{eqb, ltb}
+use lib.ListN.{length, getD}
+use Rattle.paths.specs.Below.{lowest}
+use Rattle.paths.specs.Graph.{MARK}
+use Rattle.paths.specs.Table.{due}
+use Rattle.floor.specs.declared.Floor.{Floor}
+use Rattle.floor.specs.declared.Screen.{Screen}
+use Rattle.floor.specs.declared.Screen.the-variants.{Passed}
+use Rattle.floor.specs.Place.{cells}
+use Rattle.floor.specs.Step.{graph}
+use Rattle.floor.specs.Refusal.{Line, line, screen, floorLines, outsideLine, blockedLine}
+use Rattle.claims.specs.declared.Offer.{Offer}
+use Rattle.claims.specs.declared.Offer.the-variants.{Nothing, Sum}
+use Rattle.claims.specs.declared.TableVerdict.{TableVerdict}
+use Rattle.claims.specs.declared.TableVerdict.the-variants.{Right, Breaks}
+
+-- 9: the costs are shorter than width × height
+abbrev pub costsLine : Floor → List ℕ → Line
+costsLine f t = line 9 (ltb (length t) (cells f)) 0
+
+-- 1 to 5, 7, then 9
+abbrev pub tableLines : Floor → List ℕ → ℕ → List ℕ → List Line
+tableLines f m s t = floorLines f m ++ (outsideLine 5 f s ∷ blockedLine 7 m s ∷ costsLine f t ∷ [])
+
+-- what the code holds for an offer
+abbrev pub offered : Offer → Option ℕ
+offered Nothing = none
+offered (Sum a) = some a
+
+-- what the rule asks of cell v: a blocked cell has MARK, any other what it is due by the values of its neighbours
+unfoldable pub owed : Floor → List ℕ → ℕ → List ℕ → ℕ → ℕ
+owed f m s t v = cond (eqb (getD m v 0) 0) MARK (due (graph f m) s t v)
+
+-- cell v has another value
+unfoldable pub breaks : Floor → List ℕ → ℕ → List ℕ → ℕ → Bool
+breaks f m s t v = not (eqb (getD t v 0) (owed f m s t v))
+
+-- b is the lowest cell that breaks the rule
+pub record IsLowest (f : Floor) (m : List ℕ) (s : ℕ) (t : List ℕ) (b : ℕ) : Type 0 where
+  pub inside : b < cells f
+  pub breaks : getD t b 0 ≢ owed f m s t b
+  pub lowest : (v : ℕ) → v < b → getD t v 0 ≡ owed f m s t v
+
+-- the lowest cell that breaks the rule, or the number of cells
+unfoldable pub breaking : Floor → List ℕ → ℕ → List ℕ → ℕ
+breaking f m s t = lowest (breaks f m s t) (cells f)
+
+abbrev pub judged : Floor → ℕ → Screen → TableVerdict
+judged f b Passed = cond (ltb b (cells f)) (Breaks b) Right
+judged f b (Screen.Refused n p) = TableVerdict.Refused n p
+
+unfoldable pub tableVerdict : Floor → List ℕ → ℕ → List ℕ → TableVerdict
+tableVerdict f m s t = judged f (breaking f m s t) (screen (tableLines f m s t))
