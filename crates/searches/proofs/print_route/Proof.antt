@@ -1,0 +1,59 @@
+-- Nothing has to hold from turn to turn. The measure is what is left of the slice.
+use Prim.Native.Nat.{_-_}
+use lib.ListN.{length}
+use borrow.Author.Needs.{needs}
+use Rattle.searches.proofs.print_route.Statement.{statement}
+use Rattle.searches.proofs.print_route.Tie as tie
+
+abbrev Inv-loop : tie.InvT-loop
+Inv-loop route i₀ i = Unit {0}
+
+abbrev μ-loop : tie.MeasureT-loop
+μ-loop route i₀ i = length route - i
+
+slice-aggregate-print : tie.Need-slice-aggregate-print Inv-loop μ-loop
+slice-aggregate-print c = search needs
+
+print-requires : tie.Need-print-requires Inv-loop μ-loop
+print-requires c κs = tt
+
+loop-holds : tie.Need-loop-holds Inv-loop μ-loop
+loop-holds c = search needs
+
+shared-slice-read-widened : tie.Need-shared-slice-read-widened Inv-loop μ-loop
+shared-slice-read-widened c = search needs
+
+widened-requires : tie.Need-widened-requires Inv-loop μ-loop
+widened-requires c κs = tt
+
+print-number-requires : tie.Need-print-number-requires Inv-loop μ-loop
+print-number-requires c κs = tt
+
+add-i : tie.Need-add-i Inv-loop μ-loop
+add-i c = search needs
+
+loop-less : tie.Need-loop-less Inv-loop μ-loop
+loop-less c = search needs
+
+loop-again : tie.Need-loop-again Inv-loop μ-loop
+loop-again c = search needs
+
+returns : tie.Need-returns Inv-loop μ-loop
+returns c = search needs
+
+pub print-route-spec : {M : Type 1} → statement M
+print-route-spec =
+    tie.close
+    (tie.spec
+    Inv-loop
+    μ-loop
+    slice-aggregate-print
+    print-requires
+    loop-holds
+    shared-slice-read-widened
+    widened-requires
+    print-number-requires
+    add-i
+    loop-less
+    loop-again
+    returns)
