@@ -29,10 +29,6 @@ pub record Claim : Type 0 where
 abbrev pub claim : ℕ → ℕ → ℕ → List ℕ → Claim
 claim s g k ds = record { start = s; goal = g; cost = k; route = ds }
 
--- the floor that the collector's numbers make
-abbrev pub floorOf : ℕ → ℕ → ℕ → Floor
-floorOf w h n = record { width = w; height = h; ways = n }
-
 -- 12: the route is longer than width × height − 1
 abbrev pub stepsLine : Floor → Claim → Line
 stepsLine f c = line 12 (ltb (cells f - 1) (length (c .route))) 0

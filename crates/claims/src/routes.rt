@@ -2,9 +2,10 @@
 ghost use mathlib.Core.Path.{_≡_};
 ghost use Prim.Native.Nat.{_≤_};
 ghost use Rattle.paths.specs.Graph.{MARK};
+ghost use Rattle.floor.specs.Place.{floorOf};
 ghost use Rattle.floor.specs.Refusal.{screen};
 ghost use Rattle.floor.specs.declared.Screen.{Screen};
-ghost use Rattle.claims.specs.Route.{claim, floorOf, claimLines, faultOf, tried, routeVerdict, valueOf, packed};
+ghost use Rattle.claims.specs.Route.{claim, claimLines, faultOf, tried, routeVerdict, valueOf, packed};
 use crate::RouteVerdict;
 use floor::Floor;
 use floor::Reason;

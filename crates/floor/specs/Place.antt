@@ -21,6 +21,9 @@ isSide n = ltb 0 n && leb n greatestSide
 unfoldable pub hasSides : Floor → Bool
 hasSides f = isSide (f .width) && isSide (f .height)
 
+abbrev pub floorOf : ℕ → ℕ → ℕ → Floor
+floorOf w h n = record { width = w; height = h; ways = n }
+
 abbrev pub cells : Floor → ℕ
 cells f = f .width * f .height
 

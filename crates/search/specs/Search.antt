@@ -4,6 +4,7 @@ use mathlib.Core.List.{List, [], _∷_, _++_}
 use Prim.Native.Nat.{ℕ, _*_}
 use lib.Dec.{ltb}
 use lib.ListN.{length, drop, replicate}
+use Rattle.paths.specs.Graph.{MARK}
 use Rattle.paths.specs.Table.{Right}
 use Rattle.paths.specs.Answer as row
 use Rattle.paths.specs.Answer.{Kind, answerOf, costsLeft}
@@ -15,6 +16,7 @@ use Rattle.floor.specs.Step.{graph}
 use Rattle.floor.specs.Refusal.{Line, line, screen, questionLines}
 use Rattle.search.specs.declared.Answer.{Answer}
 use Rattle.search.specs.declared.Answer.the-variants.{Found, None, Stopped}
+use Rattle.search.specs.declared.AnswerNumbers.{AnswerNumbers}
 
 -- a question: start, goal and limit
 pub record Question : Type 0 where
@@ -72,3 +74,16 @@ pub record Searched (f : Floor) (m : List ℕ) (q : Question) (r : Rooms) (a : A
   pub right : screen (searchLines f m q r) ≡ Passed → Right (graph f m) (q .start) table
   pub answer : a ≡ outcome (screen (searchLines f m q r)) (rowOf f m q table)
   pub leaves : r′ ≡ after f table (rowOf f m q table) r (screen (searchLines f m q r))
+
+-- 01's numbers of an answer: kind (0 refused, 1 found, 2 none, 3 stopped), refusal number and place, settled count, number returned, route length
+abbrev pub numbersOf : Answer → AnswerNumbers
+numbersOf (Answer.Refused n p) = record { kind = 0; refusal = n; place = p; settled = 0; number = 0; length = 0 }
+numbersOf (Found s c l) = record { kind = 1; refusal = 0; place = 0; settled = s; number = c; length = l }
+numbersOf (None s) = record { kind = 2; refusal = 0; place = 0; settled = s; number = MARK; length = 0 }
+numbersOf (Stopped s c) = record { kind = 3; refusal = 0; place = 0; settled = s; number = c; length = 0 }
+
+-- The promise of the call from C: the numbers are those of an answer that meets the search's promise
+pub record Called (f : Floor) (m : List ℕ) (q : Question) (r : Rooms) (n : AnswerNumbers) (r′ : Rooms) : Type 0 where
+  pub answer : Answer
+  pub searched : Searched f m q r answer r′
+  pub numbers : n ≡ numbersOf answer

@@ -47,3 +47,14 @@ pub enum Answer {
     // settled, the floor
     Stopped(usize, u32),
 }
+
+// An answer in numbers, for callers from C: `numbersOf` in specs/Search.antt.
+#[repr(C)]
+pub struct AnswerNumbers {
+    pub kind: u64,
+    pub refusal: u64,
+    pub place: u64,
+    pub settled: u64,
+    pub number: u64,
+    pub length: u64,
+}

@@ -2,11 +2,13 @@
 ghost use mathlib.Core.Path.{_≡_};
 ghost use lib.ListN.{length, replicate};
 ghost use Prim.Native.Nat.{_*_, _≤_, _<_};
-ghost use Rattle.floor.specs.Place.{cells};
+ghost use Rattle.floor.specs.Place.{cells, floorOf};
 ghost use Rattle.floor.specs.Refusal.{HasPassed, screen};
 ghost use Rattle.search.specs.Last.{Finished};
-ghost use Rattle.search.specs.Search.{question, rooms, lengthLines, searchLines, Searched};
+ghost use Rattle.search.specs.Search.{question, rooms, lengthLines, Searched, numbersOf, Called};
 use crate::Answer;
+use crate::AnswerNumbers;
+use crate::MARK;
 use crate::bands::fill;
 use crate::bands::settle;
 use crate::last::finish;
@@ -97,4 +99,68 @@ pub fn search(
             )
         }
     }
+}
+
+fn numbers_of(answer: Answer) -> AnswerNumbers
+    ensures { λ r. ⌜ r ≡ numbersOf answer ⌝ }
+{
+    match answer {
+        Answer::Refused(number, place) => AnswerNumbers {
+            kind: 0,
+            refusal: number as u64,
+            place: place as u64,
+            settled: 0,
+            number: 0,
+            length: 0,
+        },
+        Answer::Found(settled, cost, length) => AnswerNumbers {
+            kind: 1,
+            refusal: 0,
+            place: 0,
+            settled: settled as u64,
+            number: cost as u64,
+            length: length as u64,
+        },
+        Answer::None(settled) => AnswerNumbers {
+            kind: 2,
+            refusal: 0,
+            place: 0,
+            settled: settled as u64,
+            number: MARK as u64,
+            length: 0,
+        },
+        Answer::Stopped(settled, cost) => AnswerNumbers {
+            kind: 3,
+            refusal: 0,
+            place: 0,
+            settled: settled as u64,
+            number: cost as u64,
+            length: 0,
+        },
+    }
+}
+
+// The search for callers from C. Every number comes in at 32 bits and is widened, so that none is narrowed before it is judged.
+#[no_mangle]
+pub extern "C" fn fradnumber_search(
+    width: u32,
+    height: u32,
+    ways: u32,
+    map: &[u8],
+    start: u32,
+    goal: u32,
+    limit: u32,
+    costs: &mut [u32],
+    work: &mut [u32],
+    route: &mut [u8],
+) -> AnswerNumbers
+    ensures { λ r. ⌜ Called (floorOf width height ways) (now (map .entry)) (question start goal limit) (rooms (now (costs .entry)) (now (work .entry)) (now (route .entry))) r (rooms (now (costs .exit)) (now (work .exit)) (now (route .exit))) ⌝ }
+{
+    let f = Floor {
+        width: width as usize,
+        height: height as usize,
+        ways: ways as usize,
+    };
+    let answer = search(f, map, start, goal, limit, costs, work, route);
+    numbers_of(answer)
 }

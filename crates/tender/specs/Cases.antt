@@ -6,7 +6,7 @@ use Rattle.paths.specs.Graph.{MARK}
 use Rattle.paths.specs.Table.{Right}
 use Rattle.paths.specs.Answer.{Kind, Answer, answerOf, costsLeft}
 use Rattle.floor.specs.declared.Floor.{Floor}
-use Rattle.floor.specs.Place.{cells}
+use Rattle.floor.specs.Place.{floorOf, cells}
 use Rattle.floor.specs.Step.{graph}
 use Rattle.floor.specs.Refusal.{HasPassed}
 
@@ -33,9 +33,6 @@ abbrev pub AllHold : List Case → Type 0
 AllHold [] = Unit {0}
 AllHold (c ∷ cs) = Holds c × AllHold cs
 
-abbrev fl : ℕ → ℕ → ℕ → Floor
-fl w h n = record { width = w; height = h; ways = n }
-
 -- an answer by the settled count and the number returned
 abbrev found : ℕ → ℕ → List ℕ → Answer
 found n c ds = record { kind = Kind.found; settled = n; number = c; route = ds }
@@ -52,33 +49,33 @@ case f m s g k a t c = record { floor = f; bytes = m; start = s; goal = g; limit
 abbrev pub cases : List Case
 cases =
     -- a: .@./...
-    case (fl 3 2 8) (1 ∷ 0 ∷ 1 ∷ 1 ∷ 1 ∷ 1 ∷ []) 0 2 5 (found 5 280 (4 ∷ 2 ∷ 2 ∷ 0 ∷ []))
+    case (floorOf 3 2 8) (1 ∷ 0 ∷ 1 ∷ 1 ∷ 1 ∷ 1 ∷ []) 0 2 5 (found 5 280 (4 ∷ 2 ∷ 2 ∷ 0 ∷ []))
     (0 ∷ MARK ∷ 280 ∷ 70 ∷ 140 ∷ 210 ∷ []) (0 ∷ MARK ∷ 280 ∷ 70 ∷ 140 ∷ 210 ∷ [])
     -- b: the same, limit 4
-    ∷ case (fl 3 2 8) (1 ∷ 0 ∷ 1 ∷ 1 ∷ 1 ∷ 1 ∷ []) 0 2 4 (stopped 4 280)
+    ∷ case (floorOf 3 2 8) (1 ∷ 0 ∷ 1 ∷ 1 ∷ 1 ∷ 1 ∷ []) 0 2 4 (stopped 4 280)
     (0 ∷ MARK ∷ 280 ∷ 70 ∷ 140 ∷ 210 ∷ []) (0 ∷ MARK ∷ MARK ∷ 70 ∷ 140 ∷ 210 ∷ [])
     -- c: .../.../...
-    ∷ case (fl 3 3 8) (1 ∷ 1 ∷ 1 ∷ 1 ∷ 1 ∷ 1 ∷ 1 ∷ 1 ∷ 1 ∷ []) 0 8 9 (found 9 198 (3 ∷ 3 ∷ []))
+    ∷ case (floorOf 3 3 8) (1 ∷ 1 ∷ 1 ∷ 1 ∷ 1 ∷ 1 ∷ 1 ∷ 1 ∷ 1 ∷ []) 0 8 9 (found 9 198 (3 ∷ 3 ∷ []))
     (0 ∷ 70 ∷ 140 ∷ 70 ∷ 99 ∷ 169 ∷ 140 ∷ 169 ∷ 198 ∷ []) (0 ∷ 70 ∷ 140 ∷ 70 ∷ 99 ∷ 169 ∷ 140 ∷ 169 ∷ 198 ∷ [])
     -- d: the same, 4 ways
-    ∷ case (fl 3 3 4) (1 ∷ 1 ∷ 1 ∷ 1 ∷ 1 ∷ 1 ∷ 1 ∷ 1 ∷ 1 ∷ []) 0 8 9 (found 9 280 (4 ∷ 4 ∷ 2 ∷ 2 ∷ []))
+    ∷ case (floorOf 3 3 4) (1 ∷ 1 ∷ 1 ∷ 1 ∷ 1 ∷ 1 ∷ 1 ∷ 1 ∷ 1 ∷ []) 0 8 9 (found 9 280 (4 ∷ 4 ∷ 2 ∷ 2 ∷ []))
     (0 ∷ 70 ∷ 140 ∷ 70 ∷ 140 ∷ 210 ∷ 140 ∷ 210 ∷ 280 ∷ []) (0 ∷ 70 ∷ 140 ∷ 70 ∷ 140 ∷ 210 ∷ 140 ∷ 210 ∷ 280 ∷ [])
     -- e: ../.9
-    ∷ case (fl 2 2 8) (1 ∷ 1 ∷ 1 ∷ 9 ∷ []) 0 3 4 (found 4 700 (4 ∷ 2 ∷ []))
+    ∷ case (floorOf 2 2 8) (1 ∷ 1 ∷ 1 ∷ 9 ∷ []) 0 3 4 (found 4 700 (4 ∷ 2 ∷ []))
     (0 ∷ 70 ∷ 70 ∷ 700 ∷ []) (0 ∷ 70 ∷ 70 ∷ 700 ∷ [])
     -- f: .9./...; cell 1 is seen and not settled
-    ∷ case (fl 3 2 8) (1 ∷ 9 ∷ 1 ∷ 1 ∷ 1 ∷ 1 ∷ []) 0 2 6 (found 5 198 (3 ∷ 1 ∷ []))
+    ∷ case (floorOf 3 2 8) (1 ∷ 9 ∷ 1 ∷ 1 ∷ 1 ∷ 1 ∷ []) 0 2 6 (found 5 198 (3 ∷ 1 ∷ []))
     (0 ∷ 630 ∷ 198 ∷ 70 ∷ 99 ∷ 169 ∷ []) (0 ∷ MARK ∷ 198 ∷ 70 ∷ 99 ∷ 169 ∷ [])
     -- g: .@.
-    ∷ case (fl 3 1 8) (1 ∷ 0 ∷ 1 ∷ []) 0 2 1 (none 1) (0 ∷ MARK ∷ MARK ∷ []) (0 ∷ MARK ∷ MARK ∷ [])
+    ∷ case (floorOf 3 1 8) (1 ∷ 0 ∷ 1 ∷ []) 0 2 1 (none 1) (0 ∷ MARK ∷ MARK ∷ []) (0 ∷ MARK ∷ MARK ∷ [])
     -- h: the same, limit 0
-    ∷ case (fl 3 1 8) (1 ∷ 0 ∷ 1 ∷ []) 0 2 0 (stopped 0 0) (0 ∷ MARK ∷ MARK ∷ []) (MARK ∷ MARK ∷ MARK ∷ [])
+    ∷ case (floorOf 3 1 8) (1 ∷ 0 ∷ 1 ∷ []) 0 2 0 (stopped 0 0) (0 ∷ MARK ∷ MARK ∷ []) (MARK ∷ MARK ∷ MARK ∷ [])
     -- i: .
-    ∷ case (fl 1 1 8) (1 ∷ []) 0 0 1 (found 1 0 []) (0 ∷ []) (0 ∷ [])
+    ∷ case (floorOf 1 1 8) (1 ∷ []) 0 0 1 (found 1 0 []) (0 ∷ []) (0 ∷ [])
     -- j: .9
-    ∷ case (fl 2 1 8) (1 ∷ 9 ∷ []) 0 1 2 (found 2 630 (2 ∷ [])) (0 ∷ 630 ∷ []) (0 ∷ 630 ∷ [])
+    ∷ case (floorOf 2 1 8) (1 ∷ 9 ∷ []) 0 1 2 (found 2 630 (2 ∷ [])) (0 ∷ 630 ∷ []) (0 ∷ 630 ∷ [])
     -- k: .9, the other way
-    ∷ case (fl 2 1 8) (1 ∷ 9 ∷ []) 1 0 2 (found 2 70 (6 ∷ [])) (70 ∷ 0 ∷ []) (70 ∷ 0 ∷ [])
+    ∷ case (floorOf 2 1 8) (1 ∷ 9 ∷ []) 1 0 2 (found 2 70 (6 ∷ [])) (70 ∷ 0 ∷ []) (70 ∷ 0 ∷ [])
     -- l: .@/@.
-    ∷ case (fl 2 2 8) (1 ∷ 0 ∷ 0 ∷ 1 ∷ []) 0 3 4 (none 1) (0 ∷ MARK ∷ MARK ∷ MARK ∷ []) (0 ∷ MARK ∷ MARK ∷ MARK ∷ [])
+    ∷ case (floorOf 2 2 8) (1 ∷ 0 ∷ 0 ∷ 1 ∷ []) 0 3 4 (none 1) (0 ∷ MARK ∷ MARK ∷ MARK ∷ []) (0 ∷ MARK ∷ MARK ∷ MARK ∷ [])
     ∷ []

@@ -2,7 +2,8 @@
 use mathlib.Core.Path.{_∙_, ap}
 use native.Mathlib.Omega.{arith}
 use borrow.Author.Needs.{needs}
-use Rattle.claims.specs.Route.{claim, floorOf, packed}
+use Rattle.floor.specs.Place.{floorOf}
+use Rattle.claims.specs.Route.{claim, packed}
 use Rattle.claims.proofs.Packing.{value-small}
 use Rattle.claims.proofs.routes.fradnumber_check_route.Statement.{statement}
 use Rattle.claims.proofs.routes.fradnumber_check_route.Tie as tie
