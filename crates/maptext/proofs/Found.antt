@@ -1,0 +1,115 @@
+-- What is known of a text that reads as a map: its header has passed, its rows are whole, and the map passes the writer's refusals.
+use mathlib.Core.Path.{_≡_, refl, sym, ap, _∙_}
+use mathlib.Core.Bool.{true, _&&_}
+use mathlib.Core.List.{List, [], _∷_, _++_, map}
+use Prim.Native.Nat.{ℕ, zero, suc, _+_, _*_, _≤_}
+use native.Mathlib.Nat.{mul-comm, le-of-eq}
+use native.Mathlib.Omega.{arith}
+use borrow.Author.Tests.{eq-eqb, le-ltb, lt-ltb, le-leb}
+use lib.Dec.{eqb, ltb, ltb→lt, nltb→le}
+use lib.ListN.{length, getD, take, drop}
+use Rattle.paths.proofs.Bools.{by-cond, T-and}
+use Rattle.floor.specs.declared.Floor.{Floor}
+use Rattle.floor.specs.declared.Screen.{Screen}
+use Rattle.floor.specs.declared.Screen.the-variants.{Passed, Refused}
+use Rattle.floor.specs.Place.{greatestSide, greatestWeight, isSide, hasSides, cells}
+use Rattle.floor.specs.Refusal.{screen, mapLines, firstAbove}
+use Rattle.floor.proofs.Screens.{none-given}
+use Rattle.floor.proofs.Passing.{MapFacts}
+use Rattle.maptext.specs.declared.Cell.{Cell}
+use Rattle.maptext.specs.Reading.{Rows, whole, fault, read, cellOf, heightIn, widthIn, rowsAt, headerLines, readRows, ofRows, afterHeader, readingOf}
+use Rattle.maptext.specs.Working.{byteFor, byteOf, bytesIn, judged, Weights}
+use Rattle.maptext.proofs.Sides.{lowest-none, side-positive}
+use Rattle.maptext.proofs.Whole.{whole-rows, rows-length, bytes-length}
+
+whole-inj : {m n : List ℕ} → whole m ≡ whole n → m ≡ n
+whole-inj e = cc
+
+-- a text that was read, with a room of that length
+pub record IsFound (text : List ℕ) (room w h : ℕ) (m : List ℕ) : Type 0 where
+  pub passed : screen (headerLines text room) ≡ Passed
+  pub width : w ≡ widthIn text
+  pub height : h ≡ heightIn text
+  pub rows : readRows w h (rowsAt text) (drop (rowsAt text) text) ≡ whole m
+
+pub found : (text : List ℕ) (room w h : ℕ) (m : List ℕ) → readingOf text room ≡ read w h m → IsFound text room w h m
+unfolding readingOf
+found text room w h m e = go (screen (headerLines text room)) refl e
+  where
+    of-rows : (x : Rows) → readRows (widthIn text) (heightIn text) (rowsAt text) (drop (rowsAt text) text) ≡ x → screen (headerLines text room) ≡ Passed
+        → ofRows (widthIn text) (heightIn text) x ≡ read w h m → IsFound text room w h m
+    of-rows (whole n) q p e =
+        let width : w ≡ widthIn text = cc in
+        let height : h ≡ heightIn text = cc in
+        let cells : n ≡ m = cc in
+        record { passed = p; width = width; height = height; rows = rw (width, height) (q ∙ ap whole cells) }
+    of-rows (fault n p) q s e = let z : _≡_ {A = ℕ} 0 1 = cc in absurd (omega arith)
+
+    go : (s : Screen) → screen (headerLines text room) ≡ s → afterHeader text s ≡ read w h m → IsFound text room w h m
+    go Passed p e = of-rows (readRows (widthIn text) (heightIn text) (rowsAt text) (drop (rowsAt text) text)) refl p e
+    go (Refused n p) q e = let z : _≡_ {A = ℕ} 0 1 = cc in absurd (omega arith)
+
+byte-small : (b : ℕ) → byteOf b ≤ greatestWeight
+unfolding cellOf
+byte-small b =
+    by-cond small (eqb b 46) _ _ (λ t. omega arith) λ t.
+    by-cond small (eqb b 71) _ _ (λ t. omega arith) λ t.
+    by-cond small (ltb 48 b && ltb b 58) _ _ (λ t. omega (arith, ltb→lt b 58 (T-and (ltb 48 b) (ltb b 58) t .1))) λ t.
+    by-cond small (eqb b 64) _ _ (λ t. omega arith) λ t.
+    by-cond small (eqb b 79) _ _ (λ t. omega arith) λ t.
+    by-cond small (eqb b 84) _ _ (λ t. omega arith) λ t. omega arith
+  where
+    small : Cell → Type 0
+    small cell = byteFor cell ≤ greatestWeight
+
+weights-map : (bs : List ℕ) → Weights (map byteOf bs)
+weights-map [] v = omega arith
+weights-map (b ∷ bs) zero = byte-small b
+weights-map (b ∷ bs) (suc v) = weights-map bs v
+
+weights-append : (xs ys : List ℕ) → Weights xs → Weights ys → Weights (xs ++ ys)
+weights-append [] ys p q v = q v
+weights-append (x ∷ xs) ys p q zero = p zero
+weights-append (x ∷ xs) ys p q (suc v) = weights-append xs ys (λ u. p (suc u)) q v
+
+weights-bytes : (w h : ℕ) (text : List ℕ) → Weights (bytesIn w h text)
+weights-bytes w zero text = λ v. omega arith
+weights-bytes w (suc h) text =
+    weights-append (map byteOf (take w text)) (bytesIn w h (drop (suc w) text)) (weights-map (take w text)) (weights-bytes w h (drop (suc w) text))
+
+-- a map with these facts passes: the converse of `map-facts`
+sides-pass : (f : Floor) (m : List ℕ) → MapFacts f m → hasSides f ≡ true
+unfolding hasSides isSide
+sides-pass f m k =
+    rw (lt-ltb 0 (f .width) (k .wide), le-leb (f .width) greatestSide (k .wide-top), lt-ltb 0 (f .height) (k .high), le-leb (f .height) greatestSide (k .high-top))
+
+none-above : (m : List ℕ) → Weights m → firstAbove m ≡ length m
+unfolding firstAbove
+none-above m k =
+    lowest-none (λ v. ltb greatestWeight (getD m v 0)) (length m) λ v l t. omega (arith, ltb→lt greatestWeight (getD m v 0) t, k v)
+
+pub facts-pass : (f : Floor) (m : List ℕ) → MapFacts f m → screen (mapLines f m) ≡ Passed
+facts-pass f m k =
+    rw (sides-pass f m k, eq-eqb (length m) (cells f) (k .covers), le-ltb (firstAbove m) (length m) (le-of-eq (sym (none-above m (k .weights)))))
+
+module _ {text : List ℕ} {room w h : ℕ} {m : List ℕ} (x : IsFound text room w h m) where
+  -- the room was long enough
+  pub found-room : w * h ≤ room
+  found-room =
+      let n = none-given (headerLines text room) (x .passed) in
+      rw (x .width, x .height) (nltb→le room (widthIn text * heightIn text) (n .1 .1 .1 .1 .0))
+
+  pub found-facts : MapFacts (record { width = w; height = h; ways = 8 }) m
+  found-facts =
+      let n = none-given (headerLines text room) (x .passed) in
+      let p : judged (readRows w h (rowsAt text) (drop (rowsAt text) text)) ≡ Passed = rw (x .rows) in
+      let rest = drop (rowsAt text) text in
+      let bytes : m ≡ bytesIn w h rest = whole-inj (sym (x .rows) ∙ whole-rows w h (rowsAt text) rest p) in
+      record {
+        wide = rw (x .width) (side-positive _ _);
+        wide-top = rw (x .width) (nltb→le greatestSide (widthIn text) (n .1 .1 .0));
+        high = rw (x .height) (side-positive _ _);
+        high-top = rw (x .height) (nltb→le greatestSide (heightIn text) (n .1 .0));
+        covers = rw bytes (bytes-length w h rest (le-of-eq (sym (rows-length w h (rowsAt text) rest p))) ∙ mul-comm h w);
+        weights = rw bytes (weights-bytes w h rest);
+      }

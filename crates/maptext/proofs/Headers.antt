@@ -1,0 +1,83 @@
+-- The header, line by line: what each refusal answers, and that the text goes on where the next line starts.
+use mathlib.Core.Path.{_≡_}
+use mathlib.Core.Bool.{true, false}
+use mathlib.Core.List.{List}
+use Prim.Native.Nat.{ℕ, _+_, _*_, _≤_, _<_}
+use native.Mathlib.Omega.{arith}
+use borrow.Author.Tests.{lt-ltb, le-ltb}
+use lib.Dec.{T}
+use lib.ListN.{length, drop, length-drop}
+use Rattle.paths.proofs.Bools.{true-T}
+use Rattle.floor.specs.declared.Screen.the-variants.{Passed, Refused}
+use Rattle.floor.specs.Place.{greatestSide}
+use Rattle.floor.specs.Refusal.{screen}
+use Rattle.maptext.specs.declared.Read.{Read}
+use Rattle.maptext.specs.Text.{typeLine, mapLine, sideLine}
+use Rattle.maptext.specs.Reading.{begins, sideIn, heightIn, widthAt, widthIn, mapAt, rowsAt, headerLines, readRows, ofRows, readingOf, IsRead}
+use Rattle.maptext.specs.Working.{IsGiven}
+use Rattle.maptext.proofs.Beginnings.{begins-length}
+use Rattle.maptext.proofs.Sides.{side-there}
+
+line-within : (line text : List ℕ) (at : ℕ) → at ≤ length text → T (begins line (drop at text)) → at + length line ≤ length text
+line-within line text at h t = omega (arith, begins-length line (drop at text) t, length-drop at text)
+
+side-within : (word text : List ℕ) (at : ℕ) → at ≤ length text → sideIn word (drop at text) ≤ greatestSide
+    → at + length (sideLine word (sideIn word (drop at text))) ≤ length text
+side-within word text at h k = line-within (sideLine word (sideIn word (drop at text))) text at h (side-there word (drop at text) k)
+
+-- the lines that were found lie in the text
+module _ (text : List ℕ) (first : begins typeLine text ≡ true) where
+  pub height-within : length typeLine ≤ length text
+  height-within = begins-length typeLine text (true-T (begins typeLine text) first)
+
+  module _ (second : heightIn text ≤ greatestSide) where
+    pub width-within : widthAt text ≤ length text
+    width-within = side-within _ text (length typeLine) height-within second
+
+    module _ (third : widthIn text ≤ greatestSide) where
+      pub map-within : mapAt text ≤ length text
+      map-within = side-within _ text (widthAt text) width-within third
+
+      module _ (fourth : begins mapLine (drop (mapAt text) text) ≡ true) where
+        pub rows-within : rowsAt text ≤ length text
+        rows-within = line-within mapLine text (mapAt text) map-within (true-T (begins mapLine (drop (mapAt text) text)) fourth)
+
+        pub header-passed : (room : ℕ) → widthIn text * heightIn text ≤ room → screen (headerLines text room) ≡ Passed
+        header-passed room h =
+            rw (first, le-ltb greatestSide (heightIn text) second, le-ltb greatestSide (widthIn text) third, fourth, le-ltb room (widthIn text * heightIn text) h)
+
+-- the answer at the first line that is not as it should be, and after them all
+module _ (text room : List ℕ) where
+  refused : (n p : ℕ) → screen (headerLines text (length room)) ≡ Refused n p → IsRead text room (Read.Refused n p) room
+  unfolding readingOf
+  refused n p e = record { answers = rw e; leaves = rw e }
+
+  pub refused-21 : begins typeLine text ≡ false → IsRead text room (Read.Refused 21 0) room
+  refused-21 e = refused 21 0 (rw e)
+
+  module _ (first : begins typeLine text ≡ true) where
+    pub refused-22 : greatestSide < heightIn text → IsRead text room (Read.Refused 22 (length typeLine)) room
+    refused-22 h = refused 22 (length typeLine) (rw (first, lt-ltb greatestSide (heightIn text) h))
+
+    module _ (second : heightIn text ≤ greatestSide) where
+      pub refused-23 : greatestSide < widthIn text → IsRead text room (Read.Refused 23 (widthAt text)) room
+      refused-23 h = refused 23 (widthAt text) (rw (first, le-ltb greatestSide (heightIn text) second, lt-ltb greatestSide (widthIn text) h))
+
+      module _ (third : widthIn text ≤ greatestSide) where
+        pub refused-24 : begins mapLine (drop (mapAt text) text) ≡ false → IsRead text room (Read.Refused 24 (mapAt text)) room
+        refused-24 e = refused 24 (mapAt text) (rw (first, le-ltb greatestSide (heightIn text) second, le-ltb greatestSide (widthIn text) third, e))
+
+        module _ (fourth : begins mapLine (drop (mapAt text) text) ≡ true) where
+          pub refused-29 : length room < widthIn text * heightIn text → IsRead text room (Read.Refused 29 0) room
+          refused-29 h =
+              refused 29 0
+              (rw (first, le-ltb greatestSide (heightIn text) second, le-ltb greatestSide (widthIn text) third, fourth, lt-ltb (length room) (widthIn text * heightIn text) h))
+
+          pub rows-read : widthIn text * heightIn text ≤ length room → {w h from : ℕ} {r : Read} {room′ : List ℕ}
+              → w ≡ widthIn text → h ≡ heightIn text → from ≡ rowsAt text
+              → IsGiven (ofRows w h (readRows w h from (drop from text))) room r room′ → IsRead text room r room′
+          unfolding readingOf
+          rows-read enough width height start g =
+              let e = header-passed text first second third fourth (length room) enough in
+              let x = rw (width, height, start) at g in
+              record { answers = rw e (x .answers); leaves = rw e (x .leaves) }

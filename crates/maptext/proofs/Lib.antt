@@ -1,0 +1,13 @@
+pub mod Rooms
+pub mod Beginnings
+pub mod Decimals
+pub mod Sides
+pub mod Headers
+pub mod Judging
+pub mod Filling
+pub mod Whole
+pub mod Lengths
+pub mod Writing
+pub mod Back
+pub mod Found
+pub mod Texts

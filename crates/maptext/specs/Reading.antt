@@ -1,0 +1,120 @@
+-- What a text reads as: a map, or the first refusal of 21 to 29 in 01's order.
+use mathlib.Core.Path.{_≡_}
+use mathlib.Core.Bool.{Bool, true, false, cond, not, _&&_}
+use mathlib.Core.List.{List, [], _∷_, _++_}
+use Prim.Native.Nat.{ℕ, zero, suc, _+_, _-_, _*_}
+use lib.Dec.{eqb, ltb}
+use lib.ListN.{length, drop}
+use Rattle.paths.specs.Below.{lowest}
+use Rattle.floor.specs.declared.Screen.{Screen}
+use Rattle.floor.specs.declared.Screen.the-variants.{Passed, Refused}
+use Rattle.floor.specs.Place.{greatestSide}
+use Rattle.floor.specs.Refusal.{Line, line, screen}
+use Rattle.maptext.specs.declared.Cell.{Cell}
+use Rattle.maptext.specs.declared.Cell.the-variants.{Weight, Blocked, NoCell}
+use Rattle.maptext.specs.declared.Read.{Read}
+use Rattle.maptext.specs.declared.Read.the-variants.{Map}
+use Rattle.maptext.specs.Text.{LF, typeLine, heightWord, widthWord, mapLine, sideLine}
+
+-- `.` and `G` are weight 1, `1` to `9` their own weight, `@`, `O` and `T` blocked; all else is no cell character
+unfoldable pub cellOf : ℕ → Cell
+cellOf b =
+    cond (eqb b 46) (Weight 1)
+    (cond (eqb b 71) (Weight 1)
+    (cond (ltb 48 b && ltb b 58) (Weight (b - 48))
+    (cond (eqb b 64) Blocked
+    (cond (eqb b 79) Blocked
+    (cond (eqb b 84) Blocked NoCell)))))
+
+-- the text begins with the line
+abbrev pub begins : List ℕ → List ℕ → Bool
+begins [] text = true
+begins (b ∷ bs) [] = false
+begins (b ∷ bs) (c ∷ cs) = eqb b c && begins bs cs
+
+-- the side whose line the text begins with, or one more than the greatest
+unfoldable pub sideIn : List ℕ → List ℕ → ℕ
+sideIn word text = suc (lowest (λ n. begins (sideLine word (suc n)) text) greatestSide)
+
+-- cells read in rows, or the fault that was met first
+pub data Rows : Type 0 where
+  whole : List ℕ → Rows
+  fault : ℕ → ℕ → Rows
+
+abbrev pub andThen : Rows → Rows → Rows
+andThen (whole a) (whole b) = whole (a ++ b)
+andThen (whole a) (fault n p) = fault n p
+andThen (fault n p) r = fault n p
+
+abbrev pub oneCell : Cell → ℕ → Rows
+oneCell (Weight n) at = whole (n ∷ [])
+oneCell Blocked at = whole (0 ∷ [])
+oneCell NoCell at = fault 25 at
+
+-- w cells and their LF are due at offset `at` of the text, of which this is the rest
+abbrev pub readRow : ℕ → ℕ → List ℕ → Rows
+readRow w at [] = fault 27 at
+readRow zero at (b ∷ bs) = cond (eqb b LF) (whole []) (fault 26 at)
+readRow (suc w) at (b ∷ bs) = andThen (oneCell (cellOf b) at) (readRow w (suc at) bs)
+
+-- h rows are due, and nothing after
+abbrev pub readRows : ℕ → ℕ → ℕ → List ℕ → Rows
+readRows w zero at [] = whole []
+readRows w zero at (b ∷ bs) = fault 28 at
+readRows w (suc h) at text = andThen (readRow w at text) (readRows w h (at + suc w) (drop (suc w) text))
+
+-- where the lines of a header start, and the sides that they give
+abbrev pub heightIn : List ℕ → ℕ
+heightIn text = sideIn heightWord (drop (length typeLine) text)
+
+abbrev pub widthAt : List ℕ → ℕ
+widthAt text = length typeLine + length (sideLine heightWord (heightIn text))
+
+abbrev pub widthIn : List ℕ → ℕ
+widthIn text = sideIn widthWord (drop (widthAt text) text)
+
+abbrev pub mapAt : List ℕ → ℕ
+mapAt text = widthAt text + length (sideLine widthWord (widthIn text))
+
+abbrev pub rowsAt : List ℕ → ℕ
+rowsAt text = mapAt text + length mapLine
+
+-- 21 to 24: the first to fourth line is not as it should be, at its start; then 29: the cell room is too short
+abbrev pub headerLines : List ℕ → ℕ → List Line
+headerLines text room =
+    line 21 (not (begins typeLine text)) 0
+    ∷ line 22 (ltb greatestSide (heightIn text)) (length typeLine)
+    ∷ line 23 (ltb greatestSide (widthIn text)) (widthAt text)
+    ∷ line 24 (not (begins mapLine (drop (mapAt text) text))) (mapAt text)
+    ∷ line 29 (ltb room (widthIn text * heightIn text)) 0
+    ∷ []
+
+pub data Reading : Type 0 where
+  refused : ℕ → ℕ → Reading
+  read : ℕ → ℕ → List ℕ → Reading
+
+abbrev pub ofRows : ℕ → ℕ → Rows → Reading
+ofRows w h (whole m) = read w h m
+ofRows w h (fault n p) = refused n p
+
+abbrev pub afterHeader : List ℕ → Screen → Reading
+afterHeader text Passed = ofRows (widthIn text) (heightIn text) (readRows (widthIn text) (heightIn text) (rowsAt text) (drop (rowsAt text) text))
+afterHeader text (Refused n p) = refused n p
+
+-- the reading of a text, with a cell room of that length
+unfoldable pub readingOf : List ℕ → ℕ → Reading
+readingOf text room = afterHeader text (screen (headerLines text room))
+
+-- the reader's answer, and what its room holds afterwards
+abbrev pub readFor : Reading → Read
+readFor (refused n p) = Read.Refused n p
+readFor (read w h m) = Map (record { width = w; height = h; ways = 8 })
+
+abbrev pub cellsLeft : Reading → List ℕ → List ℕ
+cellsLeft (refused n p) room = room
+cellsLeft (read w h m) room = m ++ drop (length m) room
+
+-- the reader's promise, for a room of any length and content
+pub record IsRead (text room : List ℕ) (r : Read) (room′ : List ℕ) : Type 0 where
+  pub answers : r ≡ readFor (readingOf text (length room))
+  pub leaves : room′ ≡ cellsLeft (readingOf text (length room)) room

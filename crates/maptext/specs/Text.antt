@@ -1,0 +1,79 @@
+-- The text of a map, as the writer writes it.
+use mathlib.Core.Path.{_≡_}
+use mathlib.Core.Bool.{cond}
+use mathlib.Core.List.{List, [], _∷_, _++_, map}
+use Prim.Native.Nat.{ℕ, zero, suc, _+_, _/_, _%_}
+use lib.Dec.{ltb}
+use lib.ListN.{length, take, drop}
+use Rattle.floor.specs.declared.Floor.{Floor}
+use Rattle.floor.specs.declared.Screen.{Screen}
+use Rattle.floor.specs.declared.Screen.the-variants.{Passed, Refused}
+use Rattle.floor.specs.Refusal.{Line, line, screen, mapLines}
+use Rattle.maptext.specs.declared.Written.{Written}
+use Rattle.maptext.specs.declared.Written.the-variants.{Length}
+
+abbrev pub LF : ℕ
+LF = 10
+
+-- `type octile`, `height `, `width `, `map`
+abbrev pub typeLine : List ℕ
+typeLine = 116 ∷ 121 ∷ 112 ∷ 101 ∷ 32 ∷ 111 ∷ 99 ∷ 116 ∷ 105 ∷ 108 ∷ 101 ∷ LF ∷ []
+
+abbrev pub heightWord : List ℕ
+heightWord = 104 ∷ 101 ∷ 105 ∷ 103 ∷ 104 ∷ 116 ∷ 32 ∷ []
+
+abbrev pub widthWord : List ℕ
+widthWord = 119 ∷ 105 ∷ 100 ∷ 116 ∷ 104 ∷ 32 ∷ []
+
+abbrev pub mapLine : List ℕ
+mapLine = 109 ∷ 97 ∷ 112 ∷ LF ∷ []
+
+-- a number below 10 to the k in decimal, with no leading zero
+abbrev pub digits : ℕ → ℕ → List ℕ
+digits zero n = []
+digits (suc k) n = cond (ltb n 10) ((48 + n) ∷ []) (digits k (n / 10) ++ ((48 + n % 10) ∷ []))
+
+-- the line of a side: a side has at most four digits
+unfoldable pub sideLine : List ℕ → ℕ → List ℕ
+sideLine word n = word ++ digits 4 n ++ (LF ∷ [])
+
+unfoldable pub header : ℕ → ℕ → List ℕ
+header w h = typeLine ++ sideLine heightWord h ++ sideLine widthWord w ++ mapLine
+
+-- the character of a cell: `@` blocked, `.` weight 1, `2` to `9`
+abbrev pub charOf : ℕ → ℕ
+charOf zero = 64
+charOf (suc zero) = 46
+charOf (suc (suc n)) = 50 + n
+
+-- h rows of w characters, each with its LF
+abbrev pub rows : ℕ → ℕ → List ℕ → List ℕ
+rows w zero m = []
+rows w (suc h) m = map charOf (take w m) ++ (LF ∷ rows w h (drop w m))
+
+unfoldable pub textOf : ℕ → ℕ → List ℕ → List ℕ
+textOf w h m = header w h ++ rows w h m
+
+-- the writer's refusals: 1 to 3, then 30: the room is too short
+abbrev pub writeLines : Floor → List ℕ → ℕ → List Line
+writeLines f m room = mapLines f m ++ (line 30 (ltb room (length (textOf (f .width) (f .height) m))) 0 ∷ [])
+
+abbrev pub writtenFor : List ℕ → Screen → Written
+writtenFor text Passed = Length (length text)
+writtenFor text (Refused n p) = Written.Refused n p
+
+abbrev pub textLeft : List ℕ → List ℕ → Screen → List ℕ
+textLeft text room Passed = text ++ drop (length text) room
+textLeft text room (Refused n p) = room
+
+-- the writer's promise, for a room of any length and content
+pub record IsWritten (f : Floor) (m room : List ℕ) (r : Written) (room′ : List ℕ) : Type 0 where
+  pub answers : r ≡ writtenFor (textOf (f .width) (f .height) m) (screen (writeLines f m (length room)))
+  pub leaves : room′ ≡ textLeft (textOf (f .width) (f .height) m) room (screen (writeLines f m (length room)))
+
+-- the writer could have written the text: it is the text of a floor and a map that pass 1 to 3
+pub record CouldWrite (text : List ℕ) : Type 0 where
+  pub floor : Floor
+  pub map : List ℕ
+  pub passes : screen (mapLines floor map) ≡ Passed
+  pub writes : textOf (floor .width) (floor .height) map ≡ text

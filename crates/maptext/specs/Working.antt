@@ -1,0 +1,77 @@
+-- What the parts of the reader and the writer promise to each other. What a text means is in Text and Reading.
+use mathlib.Core.Path.{_≡_}
+use mathlib.Core.Bool.{Bool, true, false, cond, _&&_}
+use mathlib.Core.List.{List, [], _∷_, _++_, map}
+use Prim.Native.Nat.{ℕ, zero, suc, _+_, _-_, _*_, _/_, _%_, _≤_}
+use lib.Dec.{leb, ltb}
+use lib.ListN.{length, getD, take, drop}
+use lib.Seq.{sets}
+use Rattle.floor.specs.declared.Screen.{Screen}
+use Rattle.floor.specs.declared.Screen.the-variants.{Passed, Refused}
+use Rattle.floor.specs.Place.{greatestWeight}
+use Rattle.maptext.specs.declared.Cell.{Cell}
+use Rattle.maptext.specs.declared.Cell.the-variants.{Weight, Blocked, NoCell}
+use Rattle.maptext.specs.declared.Read.{Read}
+use Rattle.maptext.specs.declared.Read.the-variants.{Map}
+use Rattle.maptext.specs.Text.{heightWord}
+use Rattle.maptext.specs.Reading.{Rows, whole, fault, Reading, cellOf, readFor, cellsLeft}
+
+abbrev pub isCell : Cell → Bool
+isCell (Weight n) = true
+isCell Blocked = true
+isCell NoCell = false
+
+-- the byte that a cell has in the map; no cell has none, and 0 stands in
+abbrev pub byteFor : Cell → ℕ
+byteFor (Weight n) = n
+byteFor Blocked = 0
+byteFor NoCell = 0
+
+abbrev pub byteOf : ℕ → ℕ
+byteOf b = byteFor (cellOf b)
+
+-- the bytes of h rows of w characters, each with one byte after it
+abbrev pub bytesIn : ℕ → ℕ → List ℕ → List ℕ
+bytesIn w zero text = []
+bytesIn w (suc h) text = map byteOf (take w text) ++ bytesIn w h (drop (suc w) text)
+
+-- what is refused of rows
+abbrev pub judged : Rows → Screen
+judged (whole m) = Passed
+judged (fault n p) = Refused n p
+
+abbrev pub hasPassed : Screen → Bool
+hasPassed Passed = true
+hasPassed (Refused n p) = false
+
+-- the reader's answer, from what was found in the rows
+abbrev pub answerFor : Screen → ℕ → ℕ → Read
+answerFor Passed w h = Map (record { width = w; height = h; ways = 8 })
+answerFor (Refused n p) w h = Read.Refused n p
+
+-- a reading is answered, and its cells are left in the room
+pub record IsGiven (x : Reading) (room : List ℕ) (r : Read) (room′ : List ℕ) : Type 0 where
+  pub answers : r ≡ readFor x
+  pub leaves : room′ ≡ cellsLeft x room
+
+-- the number that the digits at the beginning of a text give, read on from n; it stops at a number of four digits, which no side exceeds
+abbrev pub runValue : ℕ → List ℕ → ℕ
+runValue n [] = n
+runValue n (b ∷ bs) = cond (ltb n 1000 && (leb 48 b && leb b 57)) (runValue (10 * n + (b - 48)) bs) n
+
+-- the length of the longer word of a side's line
+abbrev pub greatestWord : ℕ
+greatestWord = length heightWord
+
+-- the digit of n at a unit (1, 10, 100, ..), if n reaches the unit
+unfoldable pub digitAt : ℕ → ℕ → List ℕ
+digitAt unit n = cond (ltb n unit) [] ((48 + n / unit % 10) ∷ [])
+
+-- bs was put into the room at a place, and r is the place after it
+pub record IsPut (bs room : List ℕ) (at r : ℕ) (room′ : List ℕ) : Type 0 where
+  pub next : r ≡ at + length bs
+  pub leaves : room′ ≡ sets room at bs
+
+-- every byte of a map is a weight; past the end too, where `getD` gives its default
+abbrev pub Weights : List ℕ → Type 0
+Weights m = (v : ℕ) → getD m v 0 ≤ greatestWeight

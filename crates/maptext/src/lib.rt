@@ -1,0 +1,29 @@
+// Map text: the reader and the writer of 01, "Map text". specs/Text.antt says what a map's text is, specs/Reading.antt what a text reads as.
+
+mod chars; // chars.rt: a cell and its character
+mod lines; // lines.rt: the lines of a header, and a room that is written from a place on
+mod reader; // reader.rt: from a text to a map
+mod writer; // writer.rt: from a map to a text
+
+use floor::Floor;
+pub use reader::read_map;
+pub use writer::write_map;
+
+// What a character of a row means.
+pub enum Cell {
+    Weight(u8),
+    Blocked,
+    NoCell,
+}
+
+// The reader's answer: the floor of the map that was read (ways is 8), or the refusal's number and place.
+pub enum Read {
+    Map(Floor),
+    Refused(u32, usize),
+}
+
+// The writer's answer: the text's length, or the refusal's number and place.
+pub enum Written {
+    Length(usize),
+    Refused(u32, usize),
+}

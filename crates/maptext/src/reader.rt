@@ -1,0 +1,154 @@
+// From a text to a map.
+ghost use mathlib.Core.Path.{_≡_};
+ghost use mathlib.Core.List.{map};
+ghost use Prim.Native.Nat.{suc, _+_, _*_, _^_, _≤_, _<_};
+ghost use lib.ListN.{length, take, drop};
+ghost use lib.Seq.{sets};
+ghost use Rattle.maptext.specs.Reading.{readRow, readRows, ofRows, IsRead};
+ghost use Rattle.maptext.specs.Working.{judged, hasPassed, answerFor, IsGiven, byteOf, bytesIn};
+use crate::Read;
+use crate::chars::byte_of;
+use crate::chars::is_cell;
+use crate::lines::begins_at;
+use crate::lines::side_at;
+use crate::lines::side_line_length;
+use floor::Floor;
+use floor::GREATEST_SIDE;
+use floor::Screen;
+
+// The first fault of one row. `row` is the text from that row on, and `at` the row's offset, for the places.
+fn judge_row(width: usize, at: usize, row: &[u8]) -> Screen
+    requires { ⌜ at + length (now row) < 2 ^ 64 ⌝ }
+    ensures { λ r. ⌜ r ≡ judged (readRow width at (now (row .entry))) ⌝ }
+{
+    let mut x = 0;
+    while x < width {
+        if row.len() <= x {
+            return Screen::Refused(27, at + x);
+        }
+        if is_cell(row[x]) {
+            x += 1;
+        } else {
+            return Screen::Refused(25, at + x);
+        }
+    }
+    if row.len() <= x {
+        return Screen::Refused(27, at + x);
+    }
+    if row[x] == b'\n' {
+        return Screen::Passed;
+    }
+    Screen::Refused(26, at + x)
+}
+
+// The first fault of the rows that begin at `from`, and of what follows them.
+fn judge_rows(width: usize, height: usize, from: usize, text: &[u8]) -> Screen
+    requires { ⌜ from ≤ length (now text) ⌝ }
+    ensures { λ r. ⌜ r ≡ judged (readRows width height from (drop from (now (text .entry)))) ⌝ }
+{
+    let mut left = height;
+    let mut at = from;
+    while 0 < left {
+        let found = judge_row(width, at, &text[at..]);
+        let Screen::Passed = found else {
+            return found;
+        };
+        at += width + 1;
+        left -= 1;
+    }
+    if at < text.len() {
+        return Screen::Refused(28, at);
+    }
+    Screen::Passed
+}
+
+// Stores the cells of one row from `to` on. `row` is the text from that row on.
+fn fill_row(width: usize, row: &[u8], cells: &mut [u8], to: usize)
+    requires { ⌜ (width ≤ length (now row)) × (to + width ≤ length (now cells)) ⌝ }
+    ensures { λ _. ⌜ now (cells .exit) ≡ sets (now (cells .entry)) to (map byteOf (take width (now (row .entry)))) ⌝ }
+{
+    let mut x = 0;
+    while x < width {
+        cells[to + x] = byte_of(row[x]);
+        x += 1;
+    }
+}
+
+// Stores the cells of the rows that begin at `from`.
+fn fill_rows(width: usize, height: usize, from: usize, text: &[u8], cells: &mut [u8])
+    requires { ⌜ (from + height * suc width ≤ length (now text)) × (height * width ≤ length (now cells)) ⌝ }
+    ensures { λ _. ⌜ now (cells .exit) ≡ sets (now (cells .entry)) 0 (bytesIn width height (drop from (now (text .entry)))) ⌝ }
+{
+    let mut left = height;
+    let mut at = from;
+    let mut to = 0;
+    while 0 < left {
+        fill_row(width, &text[at..], cells, to);
+        at += width + 1;
+        to += width;
+        left -= 1;
+    }
+}
+
+fn has_passed(found: Screen) -> bool
+    ensures { λ r. ⌜ r ≡ hasPassed found ⌝ }
+{
+    match found {
+        Screen::Passed => true,
+        Screen::Refused(_, _) => false,
+    }
+}
+
+// 01: the reader always returns 8 for ways.
+fn answer(found: Screen, width: usize, height: usize) -> Read
+    ensures { λ r. ⌜ r ≡ answerFor found width height ⌝ }
+{
+    match found {
+        Screen::Passed => Read::Map(Floor {
+            width,
+            height,
+            ways: 8,
+        }),
+        Screen::Refused(number, place) => Read::Refused(number, place),
+    }
+}
+
+// The rows are judged before the first byte is stored: a fault can come late, and a refusal alters nothing.
+fn read_rows(width: usize, height: usize, from: usize, text: &[u8], cells: &mut [u8]) -> Read
+    requires { ⌜ (from ≤ length (now text)) × (width * height ≤ length (now cells)) ⌝ }
+    ensures { λ r. ⌜ IsGiven (ofRows width height (readRows width height from (drop from (now (text .entry))))) (now (cells .entry)) r (now (cells .exit)) ⌝ }
+{
+    let found = judge_rows(width, height, from, text);
+    let passed = has_passed(found);
+    if passed {
+        fill_rows(width, height, from, text, cells);
+    }
+    answer(found, width, height)
+}
+
+// 01: "Reader's refusals", in that order.
+pub fn read_map(text: &[u8], cells: &mut [u8]) -> Read
+    ensures { λ r. ⌜ IsRead (now (text .entry)) (now (cells .entry)) r (now (cells .exit)) ⌝ }
+{
+    if begins_at(b"type octile\n", text, 0) {
+        // 12 is the length of the first line, and 4, below, of the fourth.
+        let height = side_at(b"height ", text, 12);
+        if GREATEST_SIDE < height {
+            return Read::Refused(22, 12);
+        }
+        let width_at = 12 + side_line_length(b"height ", height);
+        let width = side_at(b"width ", text, width_at);
+        if GREATEST_SIDE < width {
+            return Read::Refused(23, width_at);
+        }
+        let map_at = width_at + side_line_length(b"width ", width);
+        if begins_at(b"map\n", text, map_at) {
+            if cells.len() < width * height {
+                return Read::Refused(29, 0);
+            }
+            return read_rows(width, height, map_at + 4, text, cells);
+        }
+        return Read::Refused(24, map_at);
+    }
+    Read::Refused(21, 0)
+}

@@ -1,0 +1,90 @@
+// From a map to a text.
+ghost use mathlib.Core.Path.{_≡_};
+ghost use mathlib.Core.List.{_++_, [], _∷_, map};
+ghost use Prim.Native.Nat.{suc, _+_, _*_, _≤_, _<_};
+ghost use lib.ListN.{length, take};
+ghost use Rattle.floor.specs.Place.{greatestSide};
+ghost use Rattle.maptext.specs.Text.{LF, charOf, rows, header, IsWritten};
+ghost use Rattle.maptext.specs.Working.{IsPut, Weights};
+use crate::Written;
+use crate::chars::char_of;
+use crate::lines::put;
+use crate::lines::put_side_line;
+use crate::lines::side_line_length;
+use floor::Floor;
+use floor::Screen;
+use floor::refusals::screen_map;
+
+fn put_cells(width: usize, cells: &[u8], room: &mut [u8], at: usize) -> usize
+    requires { ⌜ Weights (now cells) × (width ≤ length (now cells)) × (at + width ≤ length (now room)) ⌝ }
+    ensures { λ r. ⌜ IsPut (map charOf (take width (now (cells .entry)))) (now (room .entry)) at r (now (room .exit)) ⌝ }
+{
+    let mut x = 0;
+    while x < width {
+        room[at + x] = char_of(cells[x]);
+        x += 1;
+    }
+    at + x
+}
+
+// Puts one row and its LF. `cells` is the map from that row on.
+fn put_row(width: usize, cells: &[u8], room: &mut [u8], at: usize) -> usize
+    requires { ⌜ Weights (now cells) × (width ≤ length (now cells)) × (at + suc width ≤ length (now room)) ⌝ }
+    ensures { λ r. ⌜ IsPut (map charOf (take width (now (cells .entry))) ++ (LF ∷ [])) (now (room .entry)) at r (now (room .exit)) ⌝ }
+{
+    let end = put_cells(width, cells, room, at);
+    put(b"\n", room, end)
+}
+
+fn put_rows(width: usize, height: usize, map: &[u8], room: &mut [u8], at: usize) -> usize
+    requires { ⌜ Weights (now map) × (height * width ≤ length (now map)) × (at + height * suc width ≤ length (now room)) ⌝ }
+    ensures { λ r. ⌜ IsPut (rows width height (now (map .entry))) (now (room .entry)) at r (now (room .exit)) ⌝ }
+{
+    let mut left = height;
+    let mut from = 0;
+    let mut next = at;
+    while 0 < left {
+        next = put_row(width, &map[from..], room, next);
+        from += width;
+        left -= 1;
+    }
+    next
+}
+
+fn put_header(width: usize, height: usize, room: &mut [u8]) -> usize
+    requires { ⌜ (0 < width) × (width ≤ greatestSide) × (0 < height) × (height ≤ greatestSide) × (length (header width height) ≤ length (now room)) ⌝ }
+    ensures { λ r. ⌜ IsPut (header width height) (now (room .entry)) 0 r (now (room .exit)) ⌝ }
+{
+    let height_at = put(b"type octile\n", room, 0);
+    let width_at = put_side_line(b"height ", height, room, height_at);
+    let map_at = put_side_line(b"width ", width, room, width_at);
+    put(b"map\n", room, map_at)
+}
+
+fn text_length(width: usize, height: usize) -> usize
+    requires { ⌜ (0 < width) × (width ≤ greatestSide) × (0 < height) × (height ≤ greatestSide) ⌝ }
+    ensures { λ r. ⌜ r ≡ length (header width height) + height * suc width ⌝ }
+{
+    let head = 12 + side_line_length(b"height ", height) + side_line_length(b"width ", width) + 4;
+    head + height * (width + 1)
+}
+
+// The writer applies 1 to 3 and then 30, and does not look at ways.
+pub fn write_map(f: Floor, map: &[u8], text: &mut [u8]) -> Written
+    ensures { λ r. ⌜ IsWritten f (now (map .entry)) (now (text .entry)) r (now (text .exit)) ⌝ }
+{
+    let tried = screen_map(f, map);
+    match tried {
+        Screen::Refused(number, place) => Written::Refused(number, place),
+        Screen::Passed => {
+            let width = f.width;
+            let height = f.height;
+            if text.len() < text_length(width, height) {
+                return Written::Refused(30, 0);
+            }
+            let rows_at = put_header(width, height, text);
+            let end = put_rows(width, height, map, text, rows_at);
+            Written::Length(end)
+        }
+    }
+}
