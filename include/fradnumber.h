@@ -3,8 +3,9 @@
  *
  * Every number is an unsigned 32-bit number and may have any value: what is wrong with it is answered, and nothing is
  * narrowed before it is judged. A slice is a pointer and then a length. A null pointer with length 0 is an empty slice;
- * a null or wrong pointer with a positive length is the caller's fault, as it is for memcpy. Slices are only read.
- * Calls keep nothing between them and may run at the same time.
+ * a null or wrong pointer with a positive length is the caller's fault, as it is for memcpy. What a const pointer lends is
+ * only read. Rooms that one call is lent do not overlap each other or the map. Calls keep nothing between them and may run
+ * at the same time on rooms of their own.
  *
  * What each call promises is proved: docs/PROMISES.md.
  */
@@ -18,7 +19,7 @@
 extern "C" {
 #endif
 
-/* What a call answers: 0, the number of a refusal (1 to 12), or the number of a fault in a claimed route (41 to 46). */
+/* What is wrong: 0, a refusal (1 to 12), or a fault in a claimed route (41 to 46). */
 enum fradnumber_number {
     FRADNUMBER_HOLDS = 0,              /* the claim holds */
     FRADNUMBER_BAD_SIDE = 1,           /* width or height is 0 or above 256 */
@@ -29,6 +30,9 @@ enum fradnumber_number {
     FRADNUMBER_GOAL_OFF_MAP = 6,       /* goal is not below width times height */
     FRADNUMBER_START_BLOCKED = 7,      /* the start is blocked */
     FRADNUMBER_GOAL_BLOCKED = 8,       /* the goal is blocked */
+    FRADNUMBER_SHORT_COSTS = 9,        /* the costs room is shorter than width times height */
+    FRADNUMBER_SHORT_WORK = 10,        /* the work room is shorter than 2 times width times height */
+    FRADNUMBER_SHORT_ROUTE = 11,       /* the route room is shorter than width times height */
     FRADNUMBER_ROUTE_TOO_LONG = 12,    /* the route is longer than width times height, less 1 */
     FRADNUMBER_NO_SUCH_DIRECTION = 41, /* a direction is above 7, or odd with four ways; place: the step */
     FRADNUMBER_LEAVES_MAP = 42,        /* a step leaves the map; place: the step */
@@ -54,9 +58,43 @@ uint64_t fradnumber_check_route(uint32_t width, uint32_t height, uint32_t ways,
                                 uint32_t start, uint32_t goal, uint32_t cost,
                                 const uint8_t *route, size_t route_length);
 
-/* The two halves of an answer. */
+/* The two halves of the answer about a claim. */
 static inline uint32_t fradnumber_number_of(uint64_t answer) { return (uint32_t)(answer >> 32); }
 static inline uint32_t fradnumber_value_of(uint64_t answer) { return (uint32_t)(answer & 0xffffffffu); }
+
+/* No cost. */
+#define FRADNUMBER_MARK 4294967295u
+
+enum fradnumber_kind {
+    FRADNUMBER_REFUSED = 0, /* refusal and place say why; no room was changed */
+    FRADNUMBER_FOUND = 1,   /* number is the goal's least cost; the route room begins with the route */
+    FRADNUMBER_NONE = 2,    /* the goal cannot be reached; number is FRADNUMBER_MARK */
+    FRADNUMBER_STOPPED = 3  /* the limit came first; number is the floor: no route to the goal costs less */
+};
+
+struct fradnumber_answer {
+    uint64_t kind;    /* enum fradnumber_kind */
+    uint64_t refusal; /* enum fradnumber_number, 0 unless refused */
+    uint64_t place;   /* of the refusal */
+    uint64_t settled; /* how many cells were settled, 0 if refused */
+    uint64_t number;  /* the number returned, 0 if refused */
+    uint64_t length;  /* the route's length, 0 unless found */
+};
+
+/*
+ * Searches a least-cost route, settling at most `limit` cells by cost and then by cell number.
+ *
+ * The rooms may be longer than needed and hold anything. Afterwards, unless the question was refused, the first
+ * width * height costs are the least costs of the settled cells and FRADNUMBER_MARK for all others, the first
+ * 2 * width * height of work are 0, and, if a route was found, the route room begins with the first least-cost route, a byte
+ * a step, from the start onwards. Everything further along is as it was.
+ */
+struct fradnumber_answer fradnumber_search(uint32_t width, uint32_t height, uint32_t ways,
+                                           const uint8_t *map, size_t map_length,
+                                           uint32_t start, uint32_t goal, uint32_t limit,
+                                           uint32_t *costs, size_t costs_length,
+                                           uint32_t *work, size_t work_length,
+                                           uint8_t *route, size_t route_length);
 
 #ifdef __cplusplus
 }

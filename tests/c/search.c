@@ -1,0 +1,102 @@
+/*
+ * The search, called from C: the three kinds of answer, every refusal, and what is left in the rooms. It uses no header but
+ * the project's own, so that it also builds where only the kit's compiler makes programs for x86-64.
+ */
+#include "fradnumber.h"
+
+int printf(const char *format, ...);
+
+enum { ROOM = 16, OLD = 77 };
+
+static int wrong, tried;
+static uint32_t costs[ROOM], work[ROOM];
+static uint8_t route[ROOM];
+
+/* Case a of the customer's paper: .@. over ... */
+static const uint8_t a[6] = {1, 0, 1, 1, 1, 1};
+
+static void fill_rooms(void)
+{
+    int i;
+    for (i = 0; i < ROOM; i++) {
+        costs[i] = OLD;
+        work[i] = OLD;
+        route[i] = OLD;
+    }
+}
+
+static void expect(const char *what, struct fradnumber_answer answer, uint64_t kind, uint64_t refusal, uint64_t place,
+                   uint64_t settled, uint64_t number, uint64_t length)
+{
+    tried++;
+    if (answer.kind != kind || answer.refusal != refusal || answer.place != place || answer.settled != settled
+        || answer.number != number || answer.length != length) {
+        wrong++;
+        printf("%s: %lu %lu %lu %lu %lu %lu\n", what, (unsigned long)answer.kind, (unsigned long)answer.refusal,
+               (unsigned long)answer.place, (unsigned long)answer.settled, (unsigned long)answer.number,
+               (unsigned long)answer.length);
+    }
+}
+
+static void expect_rooms(const char *what, const uint32_t *left, int cells, int zeros, const uint8_t *steps, int length)
+{
+    int i, good = 1;
+    for (i = 0; i < ROOM; i++) {
+        if (costs[i] != (i < cells ? left[i] : OLD)) good = 0;
+        if (work[i] != (i < zeros ? 0 : OLD)) good = 0;
+        if (route[i] != (i < length ? steps[i] : OLD)) good = 0;
+    }
+    tried++;
+    if (!good) {
+        wrong++;
+        printf("%s: the rooms are not as they should be\n", what);
+    }
+}
+
+static struct fradnumber_answer on_a(uint32_t limit)
+{
+    fill_rooms();
+    return fradnumber_search(3, 2, 8, a, 6, 0, 2, limit, costs, ROOM, work, ROOM, route, ROOM);
+}
+
+static void answers(void)
+{
+    static const uint32_t all[6] = {0, FRADNUMBER_MARK, 280, 70, 140, 210}, four[6] = {0, FRADNUMBER_MARK, FRADNUMBER_MARK, 70, 140, 210};
+    static const uint32_t alone[3] = {0, FRADNUMBER_MARK, FRADNUMBER_MARK};
+    static const uint8_t steps[4] = {4, 2, 2, 0}, row[3] = {1, 0, 1};
+    expect("case a", on_a(5), FRADNUMBER_FOUND, 0, 0, 5, 280, 4);
+    expect_rooms("case a", all, 6, 12, steps, 4);
+    expect("case a, limit 2^32 - 1", on_a(4294967295u), FRADNUMBER_FOUND, 0, 0, 5, 280, 4);
+    expect("case b", on_a(4), FRADNUMBER_STOPPED, 0, 0, 4, 280, 0);
+    expect_rooms("case b", four, 6, 12, steps, 0);
+    fill_rooms();
+    expect("case g", fradnumber_search(3, 1, 8, row, 3, 0, 2, 1, costs, ROOM, work, ROOM, route, ROOM), FRADNUMBER_NONE, 0, 0, 1, FRADNUMBER_MARK, 0);
+    expect_rooms("case g", alone, 3, 6, steps, 0);
+    expect("case h", fradnumber_search(3, 1, 8, row, 3, 0, 2, 0, costs, ROOM, work, ROOM, route, ROOM), FRADNUMBER_STOPPED, 0, 0, 0, 0, 0);
+}
+
+static void refusals(void)
+{
+    static const uint8_t heavy[6] = {1, 1, 1, 10, 1, 11}, barred[6] = {0, 1, 1, 1, 1, 0};
+    fill_rooms();
+    expect("1", fradnumber_search(0, 2, 8, a, 6, 0, 2, 5, costs, ROOM, work, ROOM, route, ROOM), 0, 1, 0, 0, 0, 0);
+    expect("2", fradnumber_search(3, 2, 8, 0, 0, 0, 2, 5, costs, ROOM, work, ROOM, route, ROOM), 0, 2, 0, 0, 0, 0);
+    expect("3", fradnumber_search(3, 2, 8, heavy, 6, 0, 2, 5, costs, ROOM, work, ROOM, route, ROOM), 0, 3, 3, 0, 0, 0);
+    expect("4", fradnumber_search(3, 2, 264, a, 6, 0, 2, 5, costs, ROOM, work, ROOM, route, ROOM), 0, 4, 0, 0, 0, 0);
+    expect("5", fradnumber_search(3, 2, 8, a, 6, 6, 6, 5, costs, ROOM, work, ROOM, route, ROOM), 0, 5, 0, 0, 0, 0);
+    expect("6", fradnumber_search(3, 2, 8, a, 6, 1, 4294967295u, 5, costs, ROOM, work, ROOM, route, ROOM), 0, 6, 0, 0, 0, 0);
+    expect("7", fradnumber_search(3, 2, 8, barred, 6, 0, 5, 5, costs, ROOM, work, ROOM, route, ROOM), 0, 7, 0, 0, 0, 0);
+    expect("8", fradnumber_search(3, 2, 8, a, 6, 0, 1, 5, costs, ROOM, work, ROOM, route, ROOM), 0, 8, 0, 0, 0, 0);
+    expect("9", fradnumber_search(3, 2, 8, a, 6, 0, 2, 5, costs, 5, work, 0, route, 0), 0, 9, 0, 0, 0, 0);
+    expect("10", fradnumber_search(3, 2, 8, a, 6, 0, 2, 5, costs, 6, work, 11, 0, 0), 0, 10, 0, 0, 0, 0);
+    expect("11", fradnumber_search(3, 2, 8, a, 6, 0, 2, 5, costs, 6, work, 12, route, 5), 0, 11, 0, 0, 0, 0);
+    expect_rooms("refusals", costs, 0, 0, route, 0);
+}
+
+int main(void)
+{
+    answers();
+    refusals();
+    printf("%d looks, %d wrong\n", tried, wrong);
+    return wrong != 0;
+}
