@@ -8,7 +8,7 @@ ghost use Rattle.maptext.specs.Working.{isCell, byteOf};
 use crate::Cell;
 
 // 01: "A cell character is read by this rule".
-pub fn cell_of(b: u8) -> Cell
+pub(crate) fn cell_of(b: u8) -> Cell
     ensures { λ r. ⌜ r ≡ cellOf b ⌝ }
 {
     match b {
@@ -19,7 +19,7 @@ pub fn cell_of(b: u8) -> Cell
     }
 }
 
-pub fn is_cell(b: u8) -> bool
+pub(crate) fn is_cell(b: u8) -> bool
     ensures { λ r. ⌜ r ≡ isCell (cellOf b) ⌝ }
 {
     let cell = cell_of(b);
@@ -31,7 +31,7 @@ pub fn is_cell(b: u8) -> bool
 }
 
 // The byte of a cell in the map. The reader asks for it where all characters are known to be cells.
-pub fn byte_of(b: u8) -> u8
+pub(crate) fn byte_of(b: u8) -> u8
     ensures { λ r. ⌜ r ≡ byteOf b ⌝ }
 {
     let cell = cell_of(b);
@@ -43,7 +43,7 @@ pub fn byte_of(b: u8) -> u8
 }
 
 // The writer uses `@`, `.` for weight 1, and `2` to `9`.
-pub fn char_of(weight: u8) -> u8
+pub(crate) fn char_of(weight: u8) -> u8
     requires { ⌜ weight ≤ greatestWeight ⌝ }
     ensures { λ r. ⌜ r ≡ charOf weight ⌝ }
 {

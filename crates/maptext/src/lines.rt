@@ -25,7 +25,7 @@ fn begins(line: &[u8], text: &[u8]) -> bool
 }
 
 // Puts `bytes` into the room at a place, and answers the place after them.
-pub fn put(bytes: &[u8], room: &mut [u8], at: usize) -> usize
+pub(crate) fn put(bytes: &[u8], room: &mut [u8], at: usize) -> usize
     requires { ⌜ at + length (now bytes) ≤ length (now room) ⌝ }
     ensures { λ r. ⌜ IsPut (now (bytes .entry)) (now (room .entry)) at r (now (room .exit)) ⌝ }
 {
@@ -81,14 +81,14 @@ fn digit_count(n: usize) -> usize
 }
 
 // The length of a side's line: the word, the digits, LF.
-pub fn side_line_length(word: &[u8], n: usize) -> usize
+pub(crate) fn side_line_length(word: &[u8], n: usize) -> usize
     requires { ⌜ length (now word) ≤ greatestWord ⌝ }
     ensures { λ r. ⌜ r ≡ length (sideLine (now (word .entry)) n) ⌝ }
 {
     word.len() + digit_count(n) + 1
 }
 
-pub fn put_side_line(word: &[u8], n: usize, room: &mut [u8], at: usize) -> usize
+pub(crate) fn put_side_line(word: &[u8], n: usize, room: &mut [u8], at: usize) -> usize
     requires { ⌜ (0 < n) × (n ≤ greatestSide) × (at + length (sideLine (now word) n) ≤ length (now room)) ⌝ }
     ensures { λ r. ⌜ IsPut (sideLine (now (word .entry)) n) (now (room .entry)) at r (now (room .exit)) ⌝ }
 {
@@ -156,14 +156,14 @@ fn side_in(word: &[u8], text: &[u8]) -> usize
 }
 
 // The lines of a header are looked for at an offset.
-pub fn begins_at(line: &[u8], text: &[u8], at: usize) -> bool
+pub(crate) fn begins_at(line: &[u8], text: &[u8], at: usize) -> bool
     requires { ⌜ at ≤ length (now text) ⌝ }
     ensures { λ r. ⌜ r ≡ begins (now (line .entry)) (drop at (now (text .entry))) ⌝ }
 {
     begins(line, &text[at..])
 }
 
-pub fn side_at(word: &[u8], text: &[u8], at: usize) -> usize
+pub(crate) fn side_at(word: &[u8], text: &[u8], at: usize) -> usize
     requires { ⌜ (length (now word) ≤ greatestWord) × (at ≤ length (now text)) ⌝ }
     ensures { λ r. ⌜ r ≡ sideIn (now (word .entry)) (drop at (now (text .entry))) ⌝ }
 {
