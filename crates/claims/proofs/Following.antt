@@ -4,7 +4,6 @@ use mathlib.Core.List.{List}
 use Prim.Native.Nat.{ℕ, suc, _+_, _*_, _≤_, _<_}
 use native.Mathlib.Numerals.{add-one}
 use native.Mathlib.Omega.{arith}
-use lib.Dec.{T}
 use lib.ListN.{length, getD, drop}
 use lib.Seq.{drop-cons, drop-length}
 use Rattle.paths.specs.Graph.{MARK}
@@ -13,30 +12,17 @@ use Rattle.floor.specs.declared.Reason.{Reason}
 use Rattle.floor.specs.declared.Step.the-variants.{To, Barred}
 use Rattle.floor.specs.declared.Screen.the-variants.{Passed}
 use Rattle.floor.specs.Refusal.{screen, HasPassed}
-use Rattle.floor.specs.Step.{stepCost, greatestStep, target, stepOf, allowed}
+use Rattle.floor.specs.Step.{greatestStep, stepOf}
 use Rattle.floor.proofs.Passing.{facts, few-cells}
-use Rattle.floor.proofs.Allowed.{allowed-is, step-is}
+use Rattle.floor.proofs.Allowed.{leads}
 use Rattle.floor.proofs.Laws.{lawful}
 use Rattle.claims.specs.declared.RouteVerdict.the-variants.{Fault}
 use Rattle.claims.specs.Route.{Claim, claimLines, faultOf, arrived, onStep, tried}
 use Rattle.claims.proofs.Passing.{claim-passed, claim-short}
 
--- what a step that leads somewhere says
-pub record Leads (f : Floor) (m : List ℕ) (v d w s : ℕ) : Type 0 where
-  pub steps : T (allowed f m v d)
-  pub to : w ≡ target f v d
-  pub costs : s ≡ stepCost m d v (target f v d)
-
 module _ (f : Floor) (m : List ℕ) (v d : ℕ) where
-  pub leads : {w s : ℕ} → stepOf f m v d ≡ To w s → Leads f m v d w s
-  unfolding allowed
-  leads {w} {s} e =
-      let t : T (allowed f m v d) = rw e tt in
-      let h = step-is f m v d (allowed-is f m v d t) in
-      record { steps = t; to = cc; costs = cc }
-
   pub step-most : HasPassed f m → {w s : ℕ} → stepOf f m v d ≡ To w s → s ≤ greatestStep
-  step-most p e = let l = leads e in omega (arith, l .costs, lawful f m p .at-most v d (l .steps))
+  step-most p e = let l = leads f m v d e in omega (arith, l .costs, lawful f m p .at-most v d (l .steps))
 
 -- after i steps, on cell v with the cost k behind: the rest of the route decides
 pub record Behind (f : Floor) (m : List ℕ) (c : Claim) (v k i : ℕ) : Type 0 where

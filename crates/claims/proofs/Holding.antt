@@ -17,11 +17,10 @@ use Rattle.floor.specs.declared.Step.the-variants.{To, Barred}
 use Rattle.floor.specs.Step.{target, stepCost, stepOf, allowed, graph}
 use Rattle.floor.specs.Place.{cells}
 use Rattle.floor.proofs.Laws.{reaches-map, reaches-open}
-use Rattle.floor.proofs.Allowed.{allowed-is, step-is}
+use Rattle.floor.proofs.Allowed.{allowed-is, step-is, leads}
 use Rattle.claims.specs.declared.RouteVerdict.{RouteVerdict}
 use Rattle.claims.specs.declared.RouteVerdict.the-variants.{Holds}
 use Rattle.claims.specs.Route.{Claim, arrived, onStep, tried, screened}
-use Rattle.claims.proofs.Following.{leads}
 
 pub passed-holds : (x : Screen) (v : RouteVerdict) (k : ℕ) → screened x v ≡ Holds k → (x ≡ Passed) × (v ≡ Holds k)
 passed-holds Passed v k e = (refl, e)

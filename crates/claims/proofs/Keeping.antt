@@ -1,9 +1,9 @@
 -- The rule of the table check is the rule of the theory: no step comes into a blocked cell, and no step leaves a cell past the first width × height entries.
 use mathlib.Core.Path.{_≡_, refl, sym, _∙_, ap}
 use mathlib.Core.Logic.{_≢_}
-use mathlib.Core.Bool.{Bool, not, Bool·not-not}
+use mathlib.Core.Bool.{Bool, not, _&&_, Bool·not-not}
 use mathlib.Core.List.{List}
-use mathlib.Core.Option.{none}
+use mathlib.Core.Option.{Option, none}
 use Prim.Native.Nat.{ℕ, zero, suc, _≤_, _<_}
 use native.Mathlib.Omega.{arith}
 use native.Mathlib.Decide.{decLt}
@@ -14,7 +14,7 @@ use lib.Seq.{getD-take, length-take-le}
 use Rattle.paths.specs.Below.{lowest}
 use Rattle.paths.specs.Graph.{MARK}
 use Rattle.paths.specs.Table.{offer, smallest, due, keeps, Obeys}
-use Rattle.paths.proofs.Bools.{dec-T, not-T-false, by-cond}
+use Rattle.paths.proofs.Bools.{dec-T, not-T-false, T-and, by-cond}
 use Rattle.paths.proofs.Below.{lowest-is}
 use Rattle.floor.specs.declared.Floor.{Floor}
 use Rattle.floor.specs.Direction.{opposite}
@@ -23,7 +23,6 @@ use Rattle.floor.specs.Refusal.{HasPassed}
 use Rattle.floor.specs.Step.{target, allowed, graph}
 use Rattle.floor.proofs.Laws.{lawful, reaches-open}
 use Rattle.claims.specs.Table.{owed, breaks, breaking}
-use Rattle.claims.proofs.Offering.{no-offer}
 
 -- `lowest` gives the bound exactly when no number below it passes the test
 lowest-none : (p : ℕ → Bool) (n : ℕ) → lowest p n ≡ n → (v : ℕ) → v < n → T (not (p v))
@@ -42,11 +41,24 @@ none-lowest p n k =
     ]
 
 module _ (f : Floor) (m t : List ℕ) (v : ℕ) where
+  -- no step comes into v
+  no-offer : (d : ℕ) →
+      let u = target f v (opposite d) in
+      (T (allowed f m u d) → target f u d ≡ v → ⊥) → offer (graph f m) t v d ≡ none
+  unfolding offer
+  no-offer d n =
+      let u = target f v (opposite d) in
+      by-cond (λ (x : Option ℕ). x ≡ none) (allowed f m u d && eqb (target f u d) v && not (eqb (getD t u 0) MARK)) _ _
+      (λ k.
+      let a = T-and (allowed f m u d) (eqb (target f u d) v) (T-and (allowed f m u d && eqb (target f u d) v) _ k .0) in
+      absurd (n (a .0) (eqb→eq (target f u d) v (a .1))))
+      (λ k. refl)
+
   module _ (blocked : getD m v 0 ≡ 0) where
     blocked-offer : (d : ℕ) → offer (graph f m) t v d ≡ none
     blocked-offer d =
         let u = target f v (opposite d) in
-        no-offer f m t v d (λ a l. omega (arith, reaches-open f m u d a, ap (λ (w : ℕ). getD m w 0) l))
+        no-offer d (λ a l. omega (arith, reaches-open f m u d a, ap (λ (w : ℕ). getD m w 0) l))
 
     blocked-smallest : (n : ℕ) → smallest (graph f m) t v n ≡ none
     blocked-smallest zero = refl

@@ -11,8 +11,8 @@ use crate::MARK;
 use crate::Offer;
 use crate::TableVerdict;
 use floor::Floor;
+use floor::Into;
 use floor::Screen;
-use floor::Step;
 
 // Refusals 1 to 5 and 7, then 9. With the start as its goal too, a question is never refused 6 or 8.
 fn screen_table(f: Floor, map: &[u8], start: u32, costs: &[u32]) -> Screen
@@ -37,23 +37,19 @@ fn sum_in_full(value: u32, cost: u32) -> u64
     (value as u64) + (cost as u64)
 }
 
-// What the step in one direction into `cell` offers. The step the other way finds the cell that it comes from.
+// What the step in one direction into `cell` offers.
 fn offer_from(f: Floor, map: &[u8], costs: &[u32], cell: usize, direction: usize) -> Offer
-    requires { ⌜ HasPassed f (now map) × (cells f ≤ length (now costs)) × (direction < 8) ⌝ }
+    requires { ⌜ HasPassed f (now map) × (cells f ≤ length (now costs)) ⌝ }
     ensures { λ r. ⌜ offered r ≡ offer (graph f (now (map .entry))) (now (costs .entry)) cell direction ⌝ }
 {
-    let back = floor::steps::step_test(f, map, cell, (direction + 4) % 8);
-    let Step::To(from, _) = back else {
+    let step = floor::steps::step_into(f, map, cell, direction);
+    let Into::From(from, cost) = step else {
         return Offer::Nothing;
     };
     let value = costs[from];
     if value == MARK {
         return Offer::Nothing;
     }
-    let step = floor::steps::step_test(f, map, from, direction);
-    let Step::To(_, cost) = step else {
-        return Offer::Nothing;
-    };
     Offer::Sum(sum_in_full(value, cost))
 }
 
@@ -120,7 +116,7 @@ fn first_breaking(f: Floor, map: &[u8], start: u32, costs: &[u32]) -> usize
 }
 
 // Refused; or right, exactly for the right table; or the lowest cell that breaks the rule. A table settles a claimed "none".
-// Entries past width × height are not looked at. Each cell takes at most two step tests a direction.
+// Entries past width × height are not looked at. Each cell takes at most one step test a direction.
 pub fn check_table(f: Floor, map: &[u8], start: u32, costs: &[u32]) -> TableVerdict
     ensures { λ r. ⌜ r ≡ tableVerdict f (now (map .entry)) start (now (costs .entry)) ⌝ }
 {

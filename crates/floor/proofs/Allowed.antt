@@ -26,6 +26,12 @@ pub record Allowed (f : Floor) (m : List ℕ) (v d : ℕ) : Type 0 where
   pub beside : T (isDiagonal d)
       → T (isOpen f m (corner (moved (placeOf f v) d) (placeOf f v))) × T (isOpen f m (corner (placeOf f v) (moved (placeOf f v) d)))
 
+-- The step leads to w and costs c
+pub record Leads (f : Floor) (m : List ℕ) (v d w c : ℕ) : Type 0 where
+  pub steps : T (allowed f m v d)
+  pub to : w ≡ target f v d
+  pub costs : c ≡ stepCost m d v (target f v d)
+
 pub open-on-map : (f : Floor) (m : List ℕ) (p : Place) → T (isOpen f m p) → T (onMap f p)
 unfolding isOpen
 open-on-map f m p t = T-and (onMap f p) _ t .0
@@ -85,6 +91,14 @@ module _ (f : Floor) (m : List ℕ) (v d : ℕ) where
         not-cut (isDiagonal d) (isOpen f m (corner there (placeOf f v)) && isOpen f m (corner (placeOf f v) there))
             (λ q. let s = a .beside q in and-T (isOpen f m (corner there (placeOf f v))) _ (s .0) (s .1)),
       )
+
+  -- and so what the step test says of a step that leads somewhere
+  pub leads : {w c : ℕ} → stepOf f m v d ≡ To w c → Leads f m v d w c
+  unfolding allowed
+  leads {w} {c} e =
+      let t : T (allowed f m v d) = rw e tt in
+      let s = step-is (allowed-is t) in
+      record { steps = t; to = cc; costs = cc }
 
   is-allowed : Allowed f m v d → T (allowed f m v d)
   unfolding allowed

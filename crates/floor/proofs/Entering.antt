@@ -21,24 +21,16 @@ use Rattle.floor.specs.Direction.{opposite}
 use Rattle.floor.specs.Place.{cells}
 use Rattle.floor.specs.Step.{target, stepCost, stepOf, isTo, allowed, intoOf, graph}
 use Rattle.floor.proofs.Rows.{direction-lt}
-use Rattle.floor.proofs.Allowed.{allowed-is, step-is, open-inside}
+use Rattle.floor.proofs.Allowed.{allowed-is, leads, open-inside}
 use Rattle.floor.proofs.Laws.{step-back-allowed, step-back}
 
 opposite-twice : (d : ℕ) → d < 8 → opposite (opposite d) ≡ d
 opposite-twice d h = eqb→eq (opposite (opposite d)) d (every-at (λ e. eqb (opposite (opposite e)) e) 8 tt d h)
 
 module _ (f : Floor) (m : List ℕ) (v d : ℕ) where
-  -- what the step test says of a step
   barred-not : (r : Reason) → stepOf f m v d ≡ Barred r → T (allowed f m v d) → ⊥
   unfolding allowed
   barred-not r e t = let z : T (isTo (Barred r)) = rw e at t in absurd z
-
-  pub to-allowed : (w c : ℕ) → stepOf f m v d ≡ To w c → T (allowed f m v d)
-  unfolding allowed
-  to-allowed w c e = rw e tt
-
-  pub to-target : (w c : ℕ) → stepOf f m v d ≡ To w c → w ≡ target f v d
-  to-target w c e = let k = step-is f m v d (allowed-is f m v d (to-allowed w c e)) in cc
 
   -- the step test's answers of the step back, turned round
   pub no-direction : 8 ≤ d → Nothing ≡ intoOf f m v d
@@ -60,10 +52,10 @@ module _ (f : Floor) (m : List ℕ) (v d : ℕ) where
   unfolding intoOf
   into-from w c h e =
       let u = target f v (opposite d) in
-      let t = to-allowed f m v (opposite d) w c e in
-      let a = subst (λ (k : ℕ). T (allowed f m u k)) (opposite-twice d h) (step-back-allowed f m v (opposite d) t) in
-      let b = subst (λ (k : ℕ). target f u k ≡ v) (opposite-twice d h) (step-back f m v (opposite d) t) in
-      rw (T-true (allowed f m u d) a, eq-eqb (target f u d) v b, to-target f m v (opposite d) w c e)
+      let l = leads f m v (opposite d) e in
+      let a = subst (λ (k : ℕ). T (allowed f m u k)) (opposite-twice d h) (step-back-allowed f m v (opposite d) (l .steps)) in
+      let b = subst (λ (k : ℕ). target f u k ≡ v) (opposite-twice d h) (step-back f m v (opposite d) (l .steps)) in
+      rw (T-true (allowed f m u d) a, eq-eqb (target f u d) v b, l .to)
 
   -- it leaves a cell of the floor
   pub into-inside : (u c : ℕ) → intoOf f m v d ≡ From u c → (u ≡ target f v (opposite d)) × (u < cells f)

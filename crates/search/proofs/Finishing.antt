@@ -20,7 +20,6 @@ use Rattle.paths.proofs.Below.{count-same}
 use Rattle.paths.proofs.Meaning.{one-right-table}
 use Rattle.paths.proofs.Waves.{mark-not, occ-none}
 use Rattle.paths.proofs.Cuts.{done-agrees, key-from, key-to, key-cost}
-use Rattle.paths.proofs.Fronts.{front-rank}
 use Rattle.paths.proofs.Answers.{answer-found, left-found, next, answer-stopped, left-stopped, answer-none, left-none}
 use Rattle.floor.specs.declared.Floor.{Floor}
 use Rattle.floor.specs.Place.{cells}
@@ -30,6 +29,7 @@ use Rattle.search.specs.declared.Front.{Front}
 use Rattle.search.specs.Bands.{Between}
 use Rattle.search.specs.Cuts.{keyBelow}
 use Rattle.search.specs.Search.{Question, rowOf}
+use Rattle.search.proofs.Ranks.{rank-listed}
 
 module _ (f : Floor) (m : List ℕ) (q : Question) (costs work : List ℕ) (o : Front) (x : Between f m (q .start) costs work o) where
   -- the right table of the start
@@ -82,10 +82,6 @@ module _ (f : Floor) (m : List ℕ) (q : Question) (costs work : List ℕ) (o : 
     covers : length table ≡ cells f
     covers = right .covers
 
-    rank-is : (k : ℕ) → o .bound * 4294967296 ≤ k → k ≤ MARK * 4294967296 → rank costs k ≡ o .settled + keyBelow costs work (o .from) (o .len) k
-    unfolding keyBelow
-    rank-is k b t = front-rank (x .wave) k b t (lawful f m (x .passed) .cells-fit) ∙ rw (← x .settled)
-
     fewer : cells f ≤ MARK
     fewer = lawful f m (x .passed) .cells-fit
 
@@ -96,7 +92,7 @@ module _ (f : Floor) (m : List ℕ) (q : Question) (costs work : List ℕ) (o : 
     pub goal-rank : getD costs (q .goal) 0 < bound → o .bound ≤ getD costs (q .goal) 0 → rank costs (key costs (q .goal)) ≡ goalPlace
     goal-rank b l =
         let k = key-to costs (q .goal) bound (omega (arith, fewer)) b in
-        rank-is (key costs (q .goal)) (key-from costs (q .goal) (o .bound) l) (omega arith)
+        rank-listed x (key costs (q .goal)) (key-from costs (q .goal) (o .bound) l) (omega arith)
 
     module _ (below : getD costs (q .goal) 0 < bound) (later : o .bound ≤ getD costs (q .goal) 0) (within : goalPlace < q .limit) where
       pub row-found : rowOf f m q table ≡ record
@@ -119,10 +115,10 @@ module _ (f : Floor) (m : List ℕ) (q : Question) (costs work : List ℕ) (o : 
         (open-goal : o .bound ≤ getD costs (q .goal) 0)
         (later : getD costs (q .goal) 0 < bound → q .limit ≤ goalPlace) where
       rank-from : rank costs k ≤ q .limit
-      rank-from = omega (arith, rank-is k from-front (omega arith))
+      rank-from = omega (arith, rank-listed x k from-front (omega arith))
 
       rank-past : q .limit < rank costs (suc k)
-      rank-past = omega (arith, rank-is (suc k) (omega arith) (omega arith))
+      rank-past = omega (arith, rank-listed x (suc k) (omega arith) (omega arith))
 
       rank-later : getD costs (q .goal) 0 < bound → q .limit ≤ rank costs (key costs (q .goal))
       rank-later b = omega (arith, goal-rank b open-goal, later b)

@@ -15,6 +15,7 @@ use Rattle.paths.specs.Cut.{cheaperThan}
 use Rattle.paths.specs.Wave.{occ, Wave}
 use Rattle.paths.proofs.Bools.{true-T, T-and}
 use Rattle.paths.proofs.Waves.{begin, waits, low-fits, advance}
+use Rattle.paths.proofs.Fronts.{front-cheaper}
 use Rattle.floor.specs.declared.Floor.{Floor}
 use Rattle.floor.specs.Place.{cells}
 use Rattle.floor.specs.Step.{leastStep, greatestStep, graph}
@@ -25,7 +26,7 @@ use Rattle.search.specs.declared.Front.{Front}
 use Rattle.search.specs.declared.Band.{Band}
 use Rattle.search.specs.Bands.{Begun, Halves, Between, ScanAt, ScannedAt, IsLeast, belowIn, CanLook, Looked, empty, looked}
 use Rattle.search.proofs.Slices.{slice-at, occ-place, place-occ, tally-some}
-use Rattle.search.proofs.Tables.{cheaper-none, cheaper-most, cheaper-more, below-same}
+use Rattle.search.proofs.Tables.{cheaper-none, cheaper-most, below-same}
 
 -- where the search begins
 module _ (f : Floor) (m : List ℕ) {s : ℕ} {costs work : List ℕ} {o : Front} (passed : HasPassed f m) (starts : s < cells f) (b : Begun (cells f) s costs work o) where
@@ -109,7 +110,7 @@ module _ {f : Floor} {m : List ℕ} {s : ℕ} {costs work : List ℕ} {o : Front
 
     pub next-counted : o .settled + belowIn costs work (o .from) (o .len) (low + leastStep) ≡ cheaperThan costs (low + leastStep)
     unfolding belowIn
-    next-counted = omega (arith, x .settled, cheaper-more (x .wave) (low + leastStep) (omega (arith, low-rises)) low-room)
+    next-counted = omega (arith, x .settled, front-cheaper (x .wave) (low + leastStep) (omega (arith, low-rises)) low-room)
 
     next-some : 1 ≤ belowIn costs work (o .from) (o .len) (low + leastStep)
     unfolding belowIn

@@ -1,27 +1,21 @@
 -- A loop over the listed cells counts them one by one; the table that a cut leaves is built cell by cell.
 use mathlib.Core.Path.{_≡_, refl, sym, _∙_}
-use mathlib.Core.Bool.{Bool, cond}
+use mathlib.Core.Bool.{cond}
 use mathlib.Core.List.{List, [], _∷_, _++_, append-nil}
 use Prim.Native.Nat.{ℕ, suc, _+_, _*_, _≤_, _<_}
 use native.Mathlib.Omega.{arith}
 use native.Mathlib.Numerals.{add-one}
 use borrow.Author.Tests.{lt-ltb, le-ltb}
 use lib.Dec.{ltb}
-use lib.ListN.{length, getD, set, take, drop, length-append, length-drop}
-use lib.Seq.{slice, slice-empty, take-suc, length-take-le, drop-append-le, drop-cons, drop-length, append-snoc, getD-at, set-at}
+use lib.ListN.{length, getD, set, drop, length-append, length-drop}
+use lib.Seq.{slice, slice-empty, drop-cons, drop-length, append-snoc, getD-at, set-at}
 use Rattle.paths.specs.Below.{tick, values}
 use Rattle.paths.specs.Graph.{MARK}
 use Rattle.paths.specs.Order.{key}
-use Rattle.paths.specs.Cut.{tally, cut}
+use Rattle.paths.specs.Cut.{cut}
 use Rattle.paths.proofs.Below.{length-values}
 use Rattle.search.specs.Cuts.{keyBelow}
-
-slice-snoc : (a i : ℕ) (l : List ℕ) → a ≤ i → i < length l → slice a (i + 1) l ≡ slice a i l ++ (getD l i 0 ∷ [])
-slice-snoc a i l h k = rw (add-one, take-suc l i 0 k) (drop-append-le a (take i l) (getD l i 0 ∷ []) (omega (arith, length-take-le i l (omega arith))))
-
-tally-append : (p : ℕ → Bool) (a b : List ℕ) → tally p (a ++ b) ≡ tally p a + tally p b
-tally-append p [] b = omega arith
-tally-append p (u ∷ a) b = omega (arith, tally-append p a b)
+use Rattle.search.proofs.Slices.{slice-snoc, tally-append}
 
 module _ (costs work : List ℕ) (from k : ℕ) where
   pub key-below-none : keyBelow costs work from 0 k ≡ 0

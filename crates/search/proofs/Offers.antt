@@ -16,24 +16,11 @@ use Rattle.floor.specs.declared.Reason.{Reason}
 use Rattle.floor.specs.declared.Step.the-variants.{To, Barred}
 use Rattle.floor.specs.Place.{cells}
 use Rattle.floor.specs.Step.{target, stepCost, leastStep, greatestStep, stepOf, allowed, graph}
-use Rattle.floor.proofs.Allowed.{allowed-is, step-is}
+use Rattle.floor.proofs.Allowed.{leads}
 use Rattle.floor.proofs.Laws.{lawful}
 use Rattle.search.specs.Bands.{CanSee, Seen, no-less, known, new, Halves, InBand, TakingAt}
 use Rattle.search.proofs.Slices.{slice-push, slice-apart}
 use Rattle.search.proofs.Tables.{later-room}
-
--- what the step test says of an allowed step
-record Leads (f : Floor) (m : List ℕ) (v d w c : ℕ) : Type 0 where
-  may : T (allowed f m v d)
-  to : target f v d ≡ w
-  cost : stepCost m d v (target f v d) ≡ c
-
-leads : (f : Floor) (m : List ℕ) (v d w c : ℕ) → stepOf f m v d ≡ To w c → Leads f m v d w c
-unfolding allowed
-leads f m v d w c e =
-    let t : T (allowed f m v d) = rw e tt in
-    let i = step-is f m v d (allowed-is f m v d t) in
-    record { may = t; to = cc; cost = cc }
 
 -- A cell is written at the end of the list that waits: that list has it at its end, and the list of the band is as it was
 pub record Pushed (n : ℕ) (work : List ℕ) (at stop other end v : ℕ) : Type 0 where
@@ -145,8 +132,8 @@ module _ {f : Floor} {m : List ℕ} {s bound at stop other : ℕ} {costs work : 
   -- the step leads to a cell, which sees it
   module _ (to cost : ℕ) (e : stepOf f m cell d ≡ To to cost) where
     pub sees : CanSee costs work end to (getD costs cell 0 + cost)
-    sees = let l = leads f m cell d to cost e in rw (l .cost, l .to) at (can-see (l .may))
+    sees = let l = leads f m cell d e in rw (← l .costs, ← l .to) at (can-see (l .steps))
 
     pub seen : {costs′ work′ : List ℕ} {end′ : ℕ} → Seen costs work end to (getD costs cell 0 + cost) costs′ work′ end′
         → TakingAt f m s bound at stop other costs′ work′ end′ cell (d + 1)
-    seen z = let l = leads f m cell d to cost e in seen-there (l .may) (rw (l .cost, l .to) z)
+    seen z = let l = leads f m cell d e in seen-there (l .steps) (rw (← l .costs, ← l .to) z)

@@ -1,22 +1,22 @@
--- What a wave counts, by the cells that pass a test: the cells of its list, and those below a bound; and that costs below the bound stay what they are.
-use mathlib.Core.Path.{_≡_, refl, _∙_}
-use mathlib.Core.Bool.{Bool, true, _&&_, and-false}
-use mathlib.Core.List.{List, []}
-use Prim.Native.Nat.{ℕ, zero, suc, _+_, _≤_, _<_}
+-- How many cells are below a bound and how many wait, each as a count over all cells; and costs below the bound are least costs, so they stay.
+use mathlib.Core.Path.{_≡_, refl}
+use mathlib.Core.Bool.{Bool, true, _&&_}
+use mathlib.Core.List.{List}
+use Prim.Native.Nat.{ℕ, zero, suc, _≤_, _<_}
 use native.Mathlib.Decide.{decLt}
 use native.Mathlib.Omega.{arith}
-use borrow.Author.Tests.{lt-ltb, le-ltb}
+use borrow.Author.Tests.{le-ltb}
 use lib.Dec.{ltb, ltb→lt, lt→ltb}
 use lib.ListN.{length, getD}
 use Rattle.paths.specs.Below.{tick, count}
-use Rattle.paths.specs.Graph.{Graph, Lawful, MARK}
+use Rattle.paths.specs.Graph.{Graph, Lawful}
 use Rattle.paths.specs.Cut.{tally, cheaperThan}
 use Rattle.paths.specs.Wave.{occ, Wave}
 use Rattle.paths.proofs.Below.{count-le, count-same, count-strict}
 use Rattle.paths.proofs.Bools.{T-and}
 use Rattle.paths.proofs.Exists.{least-unique}
 use Rattle.paths.proofs.Tallies.{tally-count}
-use Rattle.paths.proofs.Waves.{below-least, mark-not, occ-none}
+use Rattle.paths.proofs.Waves.{below-least}
 use Rattle.search.proofs.Slices.{tally-all}
 
 -- at most all cells are below a bound, and none is below 0
@@ -31,11 +31,6 @@ cheaper-none costs = none (length costs)
     none : (n : ℕ) → count (λ v. ltb (getD costs v 0) 0) n ≡ 0
     none zero = refl
     none (suc n) = rw (le-ltb (getD costs n 0) 0 (omega arith)) (omega (arith, none n))
-
--- a count in two parts
-count-sum : (p q r : ℕ → Bool) (n : ℕ) → ((v : ℕ) → v < n → tick (r v) ≡ tick (p v) + tick (q v)) → count r n ≡ count p n + count q n
-count-sum p q r zero e = refl
-count-sum p q r (suc n) e = omega (arith, e n (omega arith), count-sum p q r n (λ v h. e v (omega arith)))
 
 module _ {g : Graph} {least s : ℕ} {costs : List ℕ} {bound : ℕ} {waiting later : List ℕ} (w : Wave g least s costs bound waiting later) where
   -- a cell waits for a later band once at most
@@ -60,27 +55,6 @@ module _ {g : Graph} {least s : ℕ} {costs : List ℕ} {bound : ℕ} {waiting l
       let c = count-strict (λ v. ltb 0 (occ v later) && true) (λ v. true) (g .cells) (λ v h t. tt) v h
       (λ t. let l = ltb→lt 0 (occ v later) (T-and (ltb 0 (occ v later)) true t .0) in omega arith) tt in
       omega (arith, tally-all later, later-count (λ v. true), c, count-le (λ v. true) (g .cells))
-
--- where no cell waits in the band, those below a higher bound are those below this one, and those of the list that are below it
-pub cheaper-more : {g : Graph} {least s : ℕ} {costs : List ℕ} {bound : ℕ} {later : List ℕ} → Wave g least s costs bound [] later → (c : ℕ) → bound ≤ c → c ≤ MARK
-    → cheaperThan costs c ≡ cheaperThan costs bound + tally (λ v. ltb (getD costs v 0) c) later
-unfolding cheaperThan
-cheaper-more {g} {costs = costs} {bound} {later} w c rises top =
-    rw (w .covers)
-    (count-sum (λ v. ltb (getD costs v 0) bound) (λ v. ltb 0 (occ v later) && ltb (getD costs v 0) c) (λ v. ltb (getD costs v 0) c) (g .cells)
-    (λ v h. part v h (decLt (getD costs v 0) bound) (decLt (getD costs v 0) c))
-    ∙ omega (arith, later-count w (λ v. ltb (getD costs v 0) c)))
-  where
-    part : (v : ℕ) → v < g .cells → Dec (getD costs v 0 < bound) → Dec (getD costs v 0 < c)
-        → tick (ltb (getD costs v 0) c) ≡ tick (ltb (getD costs v 0) bound) + tick (ltb 0 (occ v later) && ltb (getD costs v 0) c)
-    part v h (yes b) k = rw (lt-ltb (getD costs v 0) c (omega arith), lt-ltb (getD costs v 0) bound b, le-ltb 0 (occ v later) (omega (arith, w .passed v h b)))
-    part v h (no b) (yes k) =
-        rw (
-          lt-ltb (getD costs v 0) c k,
-          le-ltb (getD costs v 0) bound (omega arith),
-          lt-ltb 0 (occ v later) (omega (arith, w .listed v h (omega arith), occ-none v, mark-not (getD costs v 0) (omega arith))),
-        )
-    part v h (no b) (no k) = rw (le-ltb (getD costs v 0) c (omega arith), le-ltb (getD costs v 0) bound (omega arith), and-false (ltb 0 (occ v later)))
 
 module _ {g : Graph} {least most : ℕ} (law : Lawful g least most) (s : ℕ) {bound : ℕ} where
   -- costs below the bound stay what they are

@@ -1,89 +1,78 @@
--- The step back finds the cell that the step comes from, or that there is none; then each return decides the rest of `offer`.
-use mathlib.Core.Path.{sym, _∙_}
+-- The step into the cell is the floor's, and its law `offer-into` reads the offer off it; each return is one of its cases.
+use mathlib.Core.Path.{_≡_, sym, _∙_}
+use Prim.Native.Nat.{_<_}
 use native.Mathlib.Omega.{arith}
 use borrow.Author.Needs.{needs}
-use Rattle.claims.proofs.Offering.{Comes, comes, barred-offer, marked-offer, sum-offer, not-barred}
+use borrow.Author.Tests.{eq-eqb, ne-eqb}
+use lib.ListN.{length, getD}
+use Rattle.paths.specs.Graph.{MARK}
+use Rattle.floor.specs.declared.Into.the-variants.{From}
+use Rattle.floor.specs.Step.{intoOf}
+use Rattle.floor.proofs.Entering.{into-inside, offer-into}
 use Rattle.claims.proofs.tables.offer_from.Statement.{statement}
 use Rattle.claims.proofs.tables.offer_from.Tie as tie
 
-add-step-test : tie.Need-add-step-test
-add-step-test c = search needs
+step-into-requires : tie.Need-step-into-requires
+step-into-requires c κs = search needs
 
-step-test-requires : tie.Need-step-test-requires
-step-test-requires c κs = search needs
-
-enum-known-back : tie.Need-enum-known-back
-enum-known-back c = search needs
+enum-known-step : tie.Need-enum-known-step
+enum-known-step c = search needs
 
 enum-told : tie.Need-enum-told
 enum-told c = search needs
 
 returns : tie.Need-returns
 returns c =
-    let s = c .before .before .before .before .before .args in
-    sym (barred-offer (s .f) (s .map .now) (s .costs .now) (s .cell) (s .direction) (sym (c .before .before .step-test .ensures) ∙ c .enum-told .given .1))
+    let t = c .before .before in
+    let s = t .before .before .before .args in
+    rw (offer-into (s .f) (s .map .now) (s .costs .now) (s .cell) (s .direction), ← t .step-into .ensures, c .enum-told .given .1)
 
 abbrev start : tie.After-known-told → tie.Start
 start c = c .before .before .before .before .before .before
 
--- the cell that the step comes from
-source : (c : tie.After-known-told) →
+-- where the step comes from
+leaves : (c : tie.After-known-told) →
     let s = start c .args in
-    Comes (s .f) (s .map .now) (s .cell) (s .direction) (c .before .back .given .0 .0)
-source c =
+    intoOf (s .f) (s .map .now) (s .cell) (s .direction) ≡ From (c .before .step .given .0 .0) (c .before .step .given .0 .1 .0)
+leaves c = sym (c .before .before .before .step-into .ensures) ∙ c .before .step .given .1
+
+inside : (c : tie.After-known-told) → c .before .step .given .0 .0 < length (start c .args .costs .now)
+inside c =
     let s = start c in
-    comes (s .args .f) (s .args .map .now) (s .args .cell) (s .args .direction) (s .pre .2) (sym (c .before .before .before .step-test .ensures) ∙ c .before .back .given .1)
+    omega (arith, into-inside (s .args .f) (s .args .map .now) (s .args .cell) (s .args .direction) _ _ (leaves c) .1, s .pre .1)
 
 mul-value : tie.Need-mul-value
-mul-value c = omega (arith, source c .inside, start c .pre .1, start c .good)
+mul-value c = omega (arith, inside c, start c .good)
 
 shared-slice-read-value : tie.Need-shared-slice-read-value
-shared-slice-read-value c = omega (arith, source (c .before) .inside, start (c .before) .pre .1)
+shared-slice-read-value c = inside (c .before)
 
 returns-2 : tie.Need-returns-2
 returns-2 c =
     let t = c .before .before in
-    sym (marked-offer (source t) (start t .args .costs .now) (c .if1 .taken))
-
-step-test-requires-2 : tie.Need-step-test-requires-2
-step-test-requires-2 c κs = search needs
-
-enum-known-step : tie.Need-enum-known-step
-enum-known-step c = search needs
-
-enum-told-2 : tie.Need-enum-told-2
-enum-told-2 c = search needs
-
-returns-3 : tie.Need-returns-3
-returns-3 c =
-    let t = c .before .before .before .before .before in
-    absurd (not-barred (source t) (sym (c .before .before .step-test2 .ensures) ∙ c .enum-told2 .given .1))
+    let s = start t .args in
+    rw (offer-into (s .f) (s .map .now) (s .costs .now) (s .cell) (s .direction), leaves t, eq-eqb (getD (s .costs .now) (t .before .step .given .0 .0) 0) MARK (c .if1 .taken))
 
 sum-in-full-requires : tie.Need-sum-in-full-requires
 sum-in-full-requires c κs = search needs
 
-returns-4 : tie.Need-returns-4
-returns-4 c =
-    let u = c .before .before .before .before in
-    let t = u .before .before .before in
-    rw (c .sum-in-full .ensures)
-    (sym (sum-offer (source t) (start t .args .costs .now) (u .before .if1 .left) (sym (u .step-test2 .ensures) ∙ c .before .before .step .given .1)))
+returns-3 : tie.Need-returns-3
+returns-3 c =
+    let e = c .before in
+    let t = e .before .before in
+    let s = start t .args in
+    rw (c .sum-in-full .ensures, offer-into (s .f) (s .map .now) (s .costs .now) (s .cell) (s .direction), leaves t, ne-eqb (getD (s .costs .now) (t .before .step .given .0 .0) 0) MARK (e .if1 .left))
 
 pub offer-from-spec : {M : Type 1} → statement M
 offer-from-spec =
     tie.close
     (tie.spec
-    add-step-test
-    step-test-requires
-    enum-known-back
+    step-into-requires
+    enum-known-step
     enum-told
     returns
     mul-value
     shared-slice-read-value
     returns-2
-    step-test-requires-2
-    enum-known-step
-    enum-told-2
-    returns-3
     sum-in-full-requires
-    returns-4)
+    returns-3)

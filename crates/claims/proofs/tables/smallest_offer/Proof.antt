@@ -20,7 +20,7 @@ loop-holds : tie.Need-loop-holds Inv-loop μ-loop
 loop-holds c = (refl, omega arith)
 
 offer-from-requires : tie.Need-offer-from-requires Inv-loop μ-loop
-offer-from-requires c κs = let s = c .before .before .before .before in (s .pre .0, s .pre .1, c .loop-test .taken)
+offer-from-requires c κs = search needs
 
 smaller-of-requires : tie.Need-smaller-of-requires Inv-loop μ-loop
 smaller-of-requires c κs = search needs

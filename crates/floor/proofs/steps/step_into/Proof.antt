@@ -7,9 +7,9 @@ use Rattle.floor.specs.declared.Step.the-variants.{To}
 use Rattle.floor.specs.Direction.{opposite}
 use Rattle.floor.specs.Step.{stepOf}
 use Rattle.floor.proofs.Passing.{facts}
-use Rattle.floor.proofs.Allowed.{allowed-is, open-inside}
+use Rattle.floor.proofs.Allowed.{allowed-is, leads, open-inside}
 use Rattle.floor.proofs.Laws.{reaches-map}
-use Rattle.floor.proofs.Entering.{to-allowed, to-target, no-direction, into-nothing, into-from}
+use Rattle.floor.proofs.Entering.{no-direction, into-nothing, into-from}
 use Rattle.floor.proofs.steps.step_into.Statement.{statement}
 use Rattle.floor.proofs.steps.step_into.Tie as tie
 
@@ -40,11 +40,11 @@ returns-2 c =
 abbrev start : (c : tie.After-known-told) → tie.Start
 start c = c .before .before .before .before .before .before
 
--- where the step back leads
-leads : (c : tie.After-known-told) →
+-- what the step test says of the step back
+tested : (c : tie.After-known-told) →
     let s = start c in
     stepOf (s .args .f) (s .args .map .now) (s .args .cell) (opposite (s .args .direction)) ≡ To (c .before .back .given .0 .0) (c .before .back .given .0 .1 .0)
-leads c = sym (c .before .before .before .step-test .ensures) ∙ c .before .back .given .1
+tested c = sym (c .before .before .before .step-test .ensures) ∙ c .before .back .given .1
 
 step-cost-requires : tie.Need-step-cost-requires
 step-cost-requires c κs =
@@ -52,17 +52,17 @@ step-cost-requires c κs =
     let f = s .args .f in
     let m = s .args .map .now in
     let o = opposite (s .args .direction) in
-    let t = to-allowed f m (s .args .cell) o _ _ (leads c) in
+    let t = leads f m (s .args .cell) o (tested c) in
     let k = facts f m (s .pre) .map in
-    let l = reaches-map f m (s .args .cell) o t in
-    let i = open-inside f m (s .args .cell) (allowed-is f m (s .args .cell) o t .here) in
-    (omega (arith, k .covers, to-target f m (s .args .cell) o _ _ (leads c)), omega (arith, k .covers), c .before .before .before .before .if1 .left)
+    let l = reaches-map f m (s .args .cell) o (t .steps) in
+    let i = open-inside f m (s .args .cell) (allowed-is f m (s .args .cell) o (t .steps) .here) in
+    (omega (arith, k .covers, t .to), omega (arith, k .covers), c .before .before .before .before .if1 .left)
 
 returns-3 : tie.Need-returns-3
 returns-3 c =
     let s = start (c .before) in
     ap (From (c .before .before .back .given .0 .0)) (c .step-cost .ensures)
-    ∙ into-from (s .args .f) (s .args .map .now) (s .args .cell) (s .args .direction) _ _ (c .before .before .before .before .before .if1 .left) (leads (c .before))
+    ∙ into-from (s .args .f) (s .args .map .now) (s .args .cell) (s .args .direction) _ _ (c .before .before .before .before .before .if1 .left) (tested (c .before))
 
 pub step-into-spec : {M : Type 1} → statement M
 step-into-spec =
