@@ -4,9 +4,6 @@
 pub mod routes; // routes.rt: the check of a claimed route, and the collector's entry to it
 pub mod tables; // tables.rt: the check of a claimed cost table
 
-// 01: MARK means "no cost".
-pub const MARK: u32 = 4294967295;
-
 // The answer about a claimed route: the refusal's or the fault's number and place, or the cost of a route that holds.
 pub enum RouteVerdict {
     Refused(u32, usize),

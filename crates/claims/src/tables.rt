@@ -7,11 +7,11 @@ ghost use Rattle.floor.specs.Place.{cells};
 ghost use Rattle.floor.specs.Step.{graph};
 ghost use Rattle.floor.specs.Refusal.{HasPassed, screen};
 ghost use Rattle.claims.specs.Table.{offered, tableLines, owed, breaking, tableVerdict};
-use crate::MARK;
 use crate::Offer;
 use crate::TableVerdict;
 use floor::Floor;
 use floor::Into;
+use floor::MARK;
 use floor::Screen;
 
 // Refusals 1 to 5 and 7, then 9. With the start as its goal too, a question is never refused 6 or 8.

@@ -1,4 +1,4 @@
-// The floor: the value that travels beside a map's bytes, the table of directions, the step test and the refusals 1 to 4.
+// The floor: the value that travels beside a map's bytes, the table of directions, the step test and the refusals 1 to 8.
 // specs/ says what they mean; docs/PROMISES.md has a row for each public function.
 
 pub mod refusals; // refusals.rt: what is refused of a floor and its bytes
@@ -21,6 +21,12 @@ pub struct Floor {
 pub const STRAIGHT: u32 = 70;
 
 pub const DIAGONAL: u32 = 99;
+
+// No step costs less: a straight one into a cell of weight 1.
+pub const LEAST_STEP: u32 = STRAIGHT;
+
+// 01: MARK means "no cost".
+pub const MARK: u32 = 4294967295;
 
 pub struct Direction {
     pub dx: i32,

@@ -8,9 +8,9 @@ ghost use Rattle.floor.specs.Refusal.{HasPassed};
 ghost use Rattle.search.specs.Bands.{Begun, CanSee, Seen, CanTake, Took, CanVisit, Visited, CanScan, Scanned, AmongCells, IsLeast, belowIn, CanLook, Looked, Rounds};
 use crate::Band;
 use crate::Front;
-use crate::LEAST_STEP;
-use crate::MARK;
 use floor::Floor;
+use floor::LEAST_STEP;
+use floor::MARK;
 use floor::Step;
 
 pub(crate) fn fill(room: &mut [u32], value: u32)
@@ -196,6 +196,7 @@ fn look(costs: &[u32], work: &[u32], goal: usize, limit: u32, front: Front) -> B
             more: false,
         };
     }
+    // As wide as the least step: no cell of the band can still get cheaper.
     let bound = least_cost(costs, work, from, len) + LEAST_STEP;
     let below = count_below(costs, work, from, len, bound);
     if costs[goal] < bound {

@@ -6,7 +6,7 @@ ghost use Rattle.paths.specs.Graph.{MARK};
 ghost use Rattle.paths.specs.Cut.{cut};
 ghost use Rattle.search.specs.Bands.{AmongCells};
 ghost use Rattle.search.specs.Cuts.{keyBelow, CanFind, IsNext};
-use crate::MARK;
+use floor::MARK;
 
 // A cell's cost and its number as one number: it sorts by cost, and then by cell number.
 pub(crate) fn key_of(cost: u32, cell: usize) -> u64

@@ -7,12 +7,6 @@ pub mod last; // last.rt: the last band, cut at the goal or at the limit
 pub mod rooms; // rooms.rt: the entry: refusals, and the rooms lent
 pub mod walks; // walks.rt: the walk back from the goal gives the route
 
-// 01: MARK means "no cost".
-pub const MARK: u32 = 4294967295;
-
-// A band is as wide as the least step: no cell in it can still get cheaper.
-pub const LEAST_STEP: u32 = 70;
-
 // The front of the wave, between two bands: the open cells are listed in the work room from place `from` on, `len` of them.
 // The cells below `bound` are settled, `settled` of them.
 pub struct Front {

@@ -8,11 +8,11 @@ ghost use Rattle.search.specs.Last.{Finished};
 ghost use Rattle.search.specs.Search.{question, rooms, lengthLines, Searched, numbersOf, Called};
 use crate::Answer;
 use crate::AnswerNumbers;
-use crate::MARK;
 use crate::bands::fill;
 use crate::bands::settle;
 use crate::last::finish;
 use floor::Floor;
+use floor::MARK;
 use floor::Screen;
 
 // Refusals 1 to 8 of the question, then 9 to 11 of the rooms' lengths.

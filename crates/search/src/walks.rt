@@ -7,9 +7,9 @@ ghost use Rattle.paths.specs.First.{firstRoute};
 ghost use Rattle.floor.specs.Step.{graph};
 ghost use Rattle.search.specs.Walks.{HasCosts, Gives, IsLast, CanWalk};
 use crate::Back;
-use crate::MARK;
 use floor::Floor;
 use floor::Into;
+use floor::MARK;
 
 // The step into `cell` in a direction, if it gives the cell its cost. The sum has 64 bits, so that it can't wrap.
 fn giving_step(f: Floor, map: &[u8], costs: &[u32], cell: usize, direction: usize) -> Into

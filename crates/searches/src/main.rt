@@ -4,10 +4,10 @@
 // costs and the route too.
 ghost use Prim.Native.Nat.{_<_};
 use floor::Floor;
+use floor::MARK;
 use libc::STDIN_FILENO;
 use libc::STDOUT_FILENO;
 use search::Answer;
-use search::MARK;
 
 // What the rooms hold before a search, so that the line shows which entries it wrote.
 const OLD_COST: u32 = 123456789;
