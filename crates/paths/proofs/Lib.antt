@@ -11,5 +11,6 @@ pub mod Waves
 pub mod Tallies
 pub mod Cuts
 pub mod Answers
+pub mod Outcomes
 pub mod Fronts
 pub mod Walking
