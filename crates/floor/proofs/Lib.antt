@@ -5,4 +5,5 @@ pub mod Places
 pub mod Allowed
 pub mod Laws
 pub mod Entering
+pub mod Lengths
 pub mod Questions

@@ -1,4 +1,5 @@
 pub mod Direction
 pub mod Place
 pub mod Step
+pub mod Length
 pub mod Refusal
