@@ -1,2 +1,4 @@
 pub mod CasesHold
+pub mod Rowed
+pub mod SecondHolds
 pub mod ThirdHolds

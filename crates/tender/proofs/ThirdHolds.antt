@@ -1,135 +1,29 @@
--- The third condition: the promise ties the answer to a row, the row's route is least in cost and its floor below every cost, and floor compares true lengths by costs.
-use mathlib.Core.Path.{_≡_, refl, sym, _∙_, ap}
-use mathlib.Core.Bool.{cond}
-use mathlib.Core.List.{List, [], _∷_, _++_}
-use Prim.Native.Nat.{ℕ, _*_, _≤_, _<_}
-use native.Mathlib.Omega.{arith}
-use lib.Dec.{eqb}
-use lib.ListN.{length, take, drop, replicate}
-use lib.Seq.{take-append-seam}
-use Rattle.paths.specs.Graph.{Lawful}
-use Rattle.paths.specs.Route.{costOf, Route}
-use Rattle.paths.specs.First.{First}
+-- The third condition: a found route costs least and a floor no more than any route, and the floor crate compares true lengths by costs.
+use mathlib.Core.Path.{_≡_, refl}
+use mathlib.Core.List.{List, [], _∷_}
+use Prim.Native.Nat.{ℕ, _*_}
+use lib.ListN.{take, replicate}
+use Rattle.paths.specs.Route.{costOf}
 use Rattle.paths.specs.Answer as row
-use Rattle.paths.specs.Answer.{Kind}
-use Rattle.paths.proofs.Outcomes.{found-first, found-cost, stopped-floor}
 use Rattle.floor.specs.declared.Floor.{Floor}
-use Rattle.floor.specs.declared.Screen.{Screen}
-use Rattle.floor.specs.declared.Screen.the-variants.{Passed}
 use Rattle.floor.specs.Length.{surd, square, times, squared, stepLength, lengthOf}
-use Rattle.floor.specs.Place.{cells}
-use Rattle.floor.specs.Step.{leastStep, greatestStep, stepWeight, stepCost, target, graph}
-use Rattle.floor.specs.Refusal.{screen, questionLines}
-use Rattle.floor.proofs.Laws.{lawful}
+use Rattle.floor.specs.Step.{stepWeight, stepCost, target, graph}
 use Rattle.floor.proofs.Lengths.{cost-over-length, cost-under-length, floor-under-length, length-under-length}
-use Rattle.floor.proofs.Questions.{question-passed, start-inside, goal-inside}
 use Rattle.search.specs.declared.Answer.{Answer}
-use Rattle.search.specs.declared.Answer.the-variants.{Found, Stopped}
-use Rattle.search.specs.Search.{Question, Rooms, searchLines, rowOf, answered, outcome, after, Searched, numbersOf}
-use Rattle.search.proofs.Lending.{search-question}
+use Rattle.search.specs.Search.{Question, Rooms, Searched}
 use Rattle.tender.specs.Third.{Third}
-
--- a kind and its number in 01's table
-abbrev code : Kind → ℕ
-code Kind.found = 1
-code Kind.none = 2
-code Kind.stopped = 3
-
-abbrev kindOf : ℕ → Kind
-kindOf n = cond (eqb n 1) Kind.found (cond (eqb n 2) Kind.none Kind.stopped)
-
-kind-back : (k : Kind) → kindOf (code k) ≡ k
-kind-back Kind.found = refl
-kind-back Kind.none = refl
-kind-back Kind.stopped = refl
-
-zero-no-code : (k : Kind) → 0 ≡ code k → ⊥
-zero-no-code Kind.found e = omega arith
-zero-no-code Kind.none e = omega arith
-zero-no-code Kind.stopped e = omega arith
-
-code-answered : (k : Kind) (r : row.Answer) → numbersOf (answered k r) .kind ≡ code k
-code-answered Kind.found r = refl
-code-answered Kind.none r = refl
-code-answered Kind.stopped r = refl
+use Rattle.tender.proofs.Rowed.{found-route, stopped-below}
 
 module _ {f : Floor} {m : List ℕ} {q : Question} {r : Rooms} {a : Answer} {r′ : Rooms} (x : Searched f m q r a r′) where
-  abbrev lines : Screen
-  lines = screen (searchLines f m q r)
-
-  abbrev given : row.Answer
-  given = rowOf f m q (x .table)
-
-  -- an answer of kind k is not a refusal, and comes from a row of that kind
-  record FromRow (k : Kind) : Type 0 where
-    passed : lines ≡ Passed
-    kind : given .kind ≡ k
-    answer : a ≡ answered k given
-    route : r′ .route ≡ given .route ++ drop (length (given .route)) (r .route)
-
-  from-row : (k : Kind) → numbersOf a .kind ≡ code k → FromRow k
-  from-row k e = go lines refl
-    where
-      go : (z : Screen) → lines ≡ z → FromRow k
-      go Passed p =
-          let b = x .answer ∙ ap (λ (z : Screen). outcome z given) p in
-          let c = sym (code-answered (given .kind) given) ∙ sym (ap (λ (b : Answer). numbersOf b .kind) b) ∙ e in
-          let h = sym (kind-back (given .kind)) ∙ ap kindOf c ∙ kind-back k in
-          record {
-            passed = p;
-            kind = h;
-            answer = b ∙ ap (λ (k : Kind). answered k given) h;
-            route = ap (λ (z : Rooms). z .route) (x .leaves ∙ ap (after f (x .table) given r) p);
-          }
-      go (Screen.Refused n w) p =
-          let b = x .answer ∙ ap (λ (z : Screen). outcome z given) p in
-          absurd (zero-no-code k (sym (ap (λ (b : Answer). numbersOf b .kind) b) ∙ e))
-
-  module _ (passed : lines ≡ Passed) where
-    abbrev asked : screen (questionLines f m (q .start) (q .goal)) ≡ Passed
-    asked = search-question f m q r passed
-
-    abbrev law : Lawful (graph f m) leastStep greatestStep
-    law = lawful f m (question-passed f m (q .start) (q .goal) asked)
-
-    abbrev starts : q .start < cells f
-    starts = start-inside f m (q .start) (q .goal) asked
-
-    abbrev ends : q .goal < cells f
-    ends = goal-inside f m (q .start) (q .goal) asked
-
-  -- the first part of the room is the first least-cost route, and the number returned is its cost
-  pub found-route : (s c l : ℕ) → a ≡ Found s c l
-      → First (graph f m) (q .start) (q .goal) (take l (r′ .route)) × (costOf (graph f m) (q .start) (take l (r′ .route)) ≡ c)
-  found-route s c l e =
-      let w = from-row Kind.found (ap (λ (b : Answer). numbersOf b .kind) e) in
-      let p = w .passed in
-      let b = sym e ∙ w .answer in
-      let n : l ≡ length (given .route) = ap (λ (b : Answer). numbersOf b .length) b in
-      let t : take l (r′ .route) ≡ given .route = rw (w .route, n) (take-append-seam (given .route) (drop (length (given .route)) (r .route))) in
-      rw t (
-        found-first (law p) (q .start) (starts p) (x .table) (x .right p) (q .goal) (ends p) (q .limit) (w .kind),
-        found-cost (law p) (q .start) (starts p) (x .table) (x .right p) (q .goal) (ends p) (q .limit) (w .kind) ∙ sym (ap (λ (b : Answer). numbersOf b .number) b),
-      )
-
-  -- no route to the goal costs less than the floor
-  pub stopped-below : (s c : ℕ) → a ≡ Stopped s c → (ds : List ℕ) → Route (graph f m) (q .start) (q .goal) ds → c ≤ costOf (graph f m) (q .start) ds
-  stopped-below s c e ds w =
-      let y = from-row Kind.stopped (ap (λ (b : Answer). numbersOf b .kind) e) in
-      let p = y .passed in
-      let b = sym e ∙ y .answer in
-      rw (ap (λ (b : Answer). numbersOf b .number) b)
-      (stopped-floor (law p) (q .start) (starts p) (x .table) (x .right p) (q .goal) (ends p) (q .limit) (y .kind) ds w)
-
   -- The third condition of the tender
   pub third-condition : Third f m q a (r′ .route)
   third-condition = record {
     nearly-shortest = λ s c l e ds w.
-        let y = found-route s c l e in
+        let y = found-route x s c l e in
         length-under-length f m (q .start) ds (w .allowed) (q .start) (take l (r′ .route)) (y .0 .route .allowed) (y .0 .least ds w);
-    cost-above = λ s c l e. let y = found-route s c l e in rw (y .1) at (cost-over-length f m (q .start) (take l (r′ .route)) (y .0 .route .allowed));
-    cost-below = λ s c l e. let y = found-route s c l e in rw (y .1) at (cost-under-length f m (q .start) (take l (r′ .route)) (y .0 .route .allowed));
-    floor-below = λ s c e ds w. floor-under-length f m (q .start) ds (w .allowed) c (stopped-below s c e ds w);
+    cost-above = λ s c l e. let y = found-route x s c l e in rw (y .1) at (cost-over-length f m (q .start) (take l (r′ .route)) (y .0 .route .allowed));
+    cost-below = λ s c l e. let y = found-route x s c l e in rw (y .1) at (cost-under-length f m (q .start) (take l (r′ .route)) (y .0 .route .allowed));
+    floor-below = λ s c e ds w. floor-under-length f m (q .start) ds (w .allowed) c (stopped-below x s c e ds w);
   }
 
 -- 01's example: two diagonal steps of weight 1 have T² = 8 and cost 198, and 2 × 198² = 9801 × 8, so the bound is reached
