@@ -16,8 +16,8 @@ use Rattle.paths.specs.Answer.{Kind, Answer, answerOf}
 use Rattle.paths.proofs.Orders.{place-in, place-absent, at-place}
 use Rattle.paths.proofs.Meaning.{reachable-known, L-members, L-sorted, one-first-route, first-route-cost}
 
--- kinds differ
-abbrev code : Kind → ℕ
+-- a kind's number in 01's table
+abbrev pub code : Kind → ℕ
 code Kind.found = 1
 code Kind.none = 2
 code Kind.stopped = 3

@@ -12,7 +12,7 @@ use Rattle.paths.specs.Route.{costOf, Route}
 use Rattle.paths.specs.First.{First}
 use Rattle.paths.specs.Answer as row
 use Rattle.paths.specs.Answer.{Kind}
-use Rattle.paths.proofs.Outcomes.{found-first, found-cost, stopped-floor}
+use Rattle.paths.proofs.Outcomes.{code, found-first, found-cost, stopped-floor}
 use Rattle.floor.specs.declared.Floor.{Floor}
 use Rattle.floor.specs.declared.Screen.{Screen}
 use Rattle.floor.specs.declared.Screen.the-variants.{Passed}
@@ -26,12 +26,7 @@ use Rattle.search.specs.declared.Answer.the-variants.{Found, Stopped}
 use Rattle.search.specs.Search.{Question, Rooms, searchLines, rowOf, answered, outcome, after, Searched, numbersOf}
 use Rattle.search.proofs.Lending.{search-question}
 
--- a kind and its number in 01's table
-abbrev code : Kind → ℕ
-code Kind.found = 1
-code Kind.none = 2
-code Kind.stopped = 3
-
+-- a kind from its number in 01's table
 abbrev kindOf : ℕ → Kind
 kindOf n = cond (eqb n 1) Kind.found (cond (eqb n 2) Kind.none Kind.stopped)
 
