@@ -183,7 +183,7 @@ pub fn step_test(f: Floor, map: &[u8], cell: usize, direction: usize) -> Step
     Step::Barred(Reason::NoSuchDirection)
 }
 
-// The step that enters `cell` in a direction: it leaves the cell that the step back from `cell` enters.
+// The step that enters `cell` in a direction: it leaves the cell that the step back from `cell` enters. It is no entry either.
 pub fn step_into(f: Floor, map: &[u8], cell: usize, direction: usize) -> Into
     requires { ⌜ HasPassed f (now map) ⌝ }
     ensures { λ r. ⌜ r ≡ intoOf f (now (map .entry)) cell direction ⌝ }

@@ -6,6 +6,7 @@ ghost use Rattle.paths.specs.Graph.{MARK};
 ghost use Rattle.paths.specs.Cut.{cut};
 ghost use Rattle.search.specs.Bands.{AmongCells};
 ghost use Rattle.search.specs.Cuts.{keyBelow, CanFind, IsNext};
+use crate::KEY_BASE;
 use floor::MARK;
 
 // A cell's cost and its number as one number: it sorts by cost, and then by cell number.
@@ -13,7 +14,7 @@ pub(crate) fn key_of(cost: u32, cell: usize) -> u64
     requires { ⌜ cell ≤ MARK ⌝ }
     ensures { λ r. ⌜ r ≡ cost * 4294967296 + cell ⌝ }
 {
-    (cost as u64) * 4294967296 + (cell as u64)
+    (cost as u64) * KEY_BASE + (cell as u64)
 }
 
 // How many of the listed cells have a key below `key`.

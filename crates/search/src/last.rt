@@ -1,11 +1,9 @@
 // The last band: it is cut at the goal or at the limit, and its cells are not expanded.
-ghost use mathlib.Core.Path.{_≡_};
-ghost use lib.ListN.{length};
-ghost use Rattle.paths.specs.Graph.{MARK};
 ghost use Rattle.search.specs.Last.{CanStop, StoppedAt, CanArrive, Arrived, CanFinish, Finished};
 ghost use Rattle.search.specs.Search.{question};
 use crate::Answer;
 use crate::Band;
+use crate::KEY_BASE;
 use crate::cuts::count_before;
 use crate::cuts::find_key;
 use crate::cuts::key_of;
@@ -24,12 +22,12 @@ fn stop_at_limit(limit: u32, costs: &mut [u32], work: &[u32], band: Band) -> Ans
     let from = front.from;
     let len = front.len;
     let settled = front.settled;
-    let low = (front.bound as u64) * 4294967296;
-    let high = (bound as u64) * 4294967296;
+    let low = (front.bound as u64) * KEY_BASE;
+    let high = (bound as u64) * KEY_BASE;
     let place = limit as usize - settled;
     let key = find_key(costs, work, from, len, low, high, place);
     trim(costs, key);
-    Answer::Stopped(limit as usize, (key / 4294967296) as u32)
+    Answer::Stopped(limit as usize, (key / KEY_BASE) as u32)
 }
 
 // The goal is settled, with `place` cells before it: the route is written, and the cells after the goal lose their costs.

@@ -7,6 +7,9 @@ pub mod last; // last.rt: the last band, cut at the goal or at the limit
 pub mod rooms; // rooms.rt: the entry: refusals, and the rooms lent
 pub mod walks; // walks.rt: the walk back from the goal gives the route
 
+// A cell's key is its cost times this and its number: `key` in the order of L (paths/specs/Order.antt).
+const KEY_BASE: u64 = 4294967296;
+
 // The front of the wave, between two bands: the open cells are listed in the work room from place `from` on, `len` of them.
 // The cells below `bound` are settled, `settled` of them.
 pub struct Front {
