@@ -1,4 +1,5 @@
 pub mod CasesHold
+pub mod FirstHolds
 pub mod Rowed
 pub mod SecondHolds
 pub mod ThirdHolds

@@ -1,0 +1,61 @@
+-- The first condition of the tender, of refusals: each is given exactly when 01 says, and changes nothing in lent memory.
+-- That every call ends, keeps to the memory lent to it and relies on no check by its caller is not said here: no crate builds otherwise (docs/PROMISES.md).
+use mathlib.Core.Path.{_≡_}
+use mathlib.Core.Logic.{_↔_, _⊎_}
+use mathlib.Core.Bool.{true}
+use mathlib.Core.List.{List, [], _∷_}
+use Prim.Native.Nat.{ℕ, _≤_}
+use lib.Dec.{T}
+use lib.ListN.{length, drop}
+use Rattle.floor.specs.declared.Floor.{Floor}
+use Rattle.floor.specs.declared.Screen.the-variants.{Passed, Refused}
+use Rattle.floor.specs.Refusal.{Line, line, screen, mapLines, floorLines, questionLines}
+use Rattle.maptext.specs.declared.Read.{Read}
+use Rattle.maptext.specs.declared.Written.{Written}
+use Rattle.maptext.specs.Text.{writeLines, IsWritten}
+use Rattle.maptext.specs.Reading.{Rows, fault, readRows, heightIn, widthIn, rowsAt, headerLines, IsRead}
+use Rattle.claims.specs.declared.RouteVerdict.{RouteVerdict}
+use Rattle.claims.specs.declared.TableVerdict.{TableVerdict}
+use Rattle.claims.specs.Route.{Claim, claimLines, routeVerdict}
+use Rattle.claims.specs.Table.{tableLines, tableVerdict}
+use Rattle.search.specs.declared.Answer.{Answer}
+use Rattle.search.specs.Search.{Question, Rooms, searchLines, Searched}
+
+-- the line is one of the list
+abbrev pub Has : Line → List Line → Type 0
+Has l [] = ⊥
+Has l (k ∷ ks) = (l ≡ k) ⊎ Has l ks
+
+-- "The lowest number that applies is given": line n applies, with place p, and no line of a lower number does
+pub record IsLowestLine (ls : List Line) (n p : ℕ) : Type 0 where
+  pub applies : Has (line n true p) ls
+  pub none-lower : (l : Line) → Has l ls → T (l .given) → n ≤ l .number
+
+-- `refused n p`: the answer is refusal n with place p; `due n p`: 01 says so; `same`: every lent room is as it was
+pub record Refuses (due refused : ℕ → ℕ → Type 0) (same : Type 0) : Type 0 where
+  pub exactly : (n p : ℕ) → refused n p ↔ due n p
+  pub alters-nothing : (n p : ℕ) → refused n p → same
+
+-- map text: a line of the header, or, where none applies, the first fault met in the rows
+abbrev pub rowsIn : List ℕ → Rows
+rowsIn text = readRows (widthIn text) (heightIn text) (rowsAt text) (drop (rowsAt text) text)
+
+abbrev pub IsFirstFault : List ℕ → ℕ → ℕ → ℕ → Type 0
+IsFirstFault text room n p = IsLowestLine (headerLines text room) n p ⊎ ((screen (headerLines text room) ≡ Passed) × (rowsIn text ≡ fault n p))
+
+-- The checks are lent nothing to write to: what they answer is all that they do
+pub record First : Type 0 where
+  pub search : (f : Floor) (m : List ℕ) (q : Question) (r : Rooms) (a : Answer) (r′ : Rooms) → Searched f m q r a r′
+      → Refuses (IsLowestLine (searchLines f m q r)) (λ n p. a ≡ Answer.Refused n p) (r′ ≡ r)
+  pub route-check : (f : Floor) (m : List ℕ) (c : Claim) (n p : ℕ) → (routeVerdict f m c ≡ RouteVerdict.Refused n p) ↔ IsLowestLine (claimLines f m c) n p
+  pub table-check : (f : Floor) (m : List ℕ) (s : ℕ) (t : List ℕ) (n p : ℕ)
+      → (tableVerdict f m s t ≡ TableVerdict.Refused n p) ↔ IsLowestLine (tableLines f m s t) n p
+  pub writer : (f : Floor) (m room : List ℕ) (w : Written) (room′ : List ℕ) → IsWritten f m room w room′
+      → Refuses (IsLowestLine (writeLines f m (length room))) (λ n p. w ≡ Written.Refused n p) (room′ ≡ room)
+  pub reader : (text room : List ℕ) (r : Read) (room′ : List ℕ) → IsRead text room r room′
+      → Refuses (IsFirstFault text (length room)) (λ n p. r ≡ Read.Refused n p) (room′ ≡ room)
+  -- the screens that the entries share: 1 to 3, 1 to 4, 1 to 8
+  pub map-screen : (f : Floor) (m : List ℕ) (n p : ℕ) → (screen (mapLines f m) ≡ Refused n p) ↔ IsLowestLine (mapLines f m) n p
+  pub floor-screen : (f : Floor) (m : List ℕ) (n p : ℕ) → (screen (floorLines f m) ≡ Refused n p) ↔ IsLowestLine (floorLines f m) n p
+  pub question-screen : (f : Floor) (m : List ℕ) (s g n p : ℕ)
+      → (screen (questionLines f m s g) ≡ Refused n p) ↔ IsLowestLine (questionLines f m s g) n p
