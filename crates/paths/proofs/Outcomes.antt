@@ -12,7 +12,8 @@ use Rattle.paths.specs.Route.{costOf, Route, Reachable}
 use Rattle.paths.specs.Table.{Right}
 use Rattle.paths.specs.First.{First, firstRoute}
 use Rattle.paths.specs.Order.{L, place}
-use Rattle.paths.specs.Answer.{Kind, Answer, answerOf}
+use Rattle.paths.specs.Answer.{Kind, Answer, answerOf, costsLeft}
+use Rattle.paths.proofs.Below.{length-values, getD-values}
 use Rattle.paths.proofs.Orders.{place-in, place-absent, at-place}
 use Rattle.paths.proofs.Meaning.{reachable-known, L-members, L-sorted, one-first-route, first-route-cost}
 
@@ -21,6 +22,19 @@ abbrev pub code : Kind → ℕ
 code Kind.found = 1
 code Kind.none = 2
 code Kind.stopped = 3
+
+-- the costs left: a settled cell has its value, any other MARK
+pub settled-left : (t : List ℕ) (n v : ℕ) → v < length t → place v (L t) < n → getD (costsLeft t n) v 0 ≡ getD t v 0
+unfolding costsLeft
+settled-left t n v h i = getD-values _ (length t) v h ∙ rw (lt-ltb (place v (L t)) n i)
+
+pub unsettled-left : (t : List ℕ) (n v : ℕ) → v < length t → n ≤ place v (L t) → getD (costsLeft t n) v 0 ≡ MARK
+unfolding costsLeft
+unsettled-left t n v h i = getD-values _ (length t) v h ∙ rw (le-ltb (place v (L t)) n i)
+
+pub length-left : (t : List ℕ) (n : ℕ) → length (costsLeft t n) ≡ length t
+unfolding costsLeft
+length-left t n = length-values _ (length t)
 
 module _ {g : Graph} {least most : ℕ} (law : Lawful g least most) (s : ℕ) (start : s < g .cells) (t : List ℕ) (right : Right g s t)
     (goal : ℕ) (inside : goal < g .cells) (k : ℕ) where
@@ -82,37 +96,32 @@ module _ {g : Graph} {least most : ℕ} (law : Lawful g least most) (s : ℕ) (s
       go (no e) = let r = reachable-known law s start t right goal inside .1 e in
           rw (le-ltb i k (x .1 r), lt-ltb i n (placed r), lt-leb n k (x .0), ne-eqb i n (omega (arith, placed r)))
 
-  kind-found : Found → a .kind ≡ Kind.found
-  kind-found x = ap (λ (r : Answer). r .kind) (found-is x)
+  kind-is : {r : Answer} → a ≡ r → a .kind ≡ r .kind
+  kind-is e = ap (λ (r : Answer). r .kind) e
 
-  kind-none : None → a .kind ≡ Kind.none
-  kind-none x = ap (λ (r : Answer). r .kind) (none-is x)
-
-  kind-stopped : Stopped → a .kind ≡ Kind.stopped
-  kind-stopped x = ap (λ (r : Answer). r .kind) (stopped-is x)
-
-  differ : {x y : Kind} → a .kind ≡ x → a .kind ≡ y → code x ≡ code y
-  differ e h = ap code (sym e ∙ h)
+  -- the numbers of two kinds agree if the answer is of both
+  other : {k : Kind} {r : Answer} → a .kind ≡ k → a ≡ r → code k ≡ code (r .kind)
+  other e h = ap code (sym e ∙ kind-is h)
 
   -- Found exactly when the goal is among the first cells of L, up to the limit
   pub found-exactly : (a .kind ≡ Kind.found) ↔ (Reachable g s goal × (place goal (L t) < k))
   found-exactly = (
-    λ e. ⊎-elim (λ x. x) (⊎-elim (λ x. absurd (omega (arith, differ e (kind-none x)))) (λ x. absurd (omega (arith, differ e (kind-stopped x))))) ways,
-    kind-found,
+    λ e. ⊎-elim (λ x. x) (⊎-elim (λ x. absurd (omega (arith, other e (none-is x)))) (λ x. absurd (omega (arith, other e (stopped-is x))))) ways,
+    λ x. kind-is (found-is x),
   )
 
   -- none exactly when the limit covers every reachable cell and the goal is not one
   pub none-exactly : (a .kind ≡ Kind.none) ↔ ((Reachable g s goal → ⊥) × (length (L t) ≤ k))
   none-exactly = (
-    λ e. ⊎-elim (λ x. absurd (omega (arith, differ e (kind-found x)))) (⊎-elim (λ x. x) (λ x. absurd (omega (arith, differ e (kind-stopped x))))) ways,
-    kind-none,
+    λ e. ⊎-elim (λ x. absurd (omega (arith, other e (found-is x)))) (⊎-elim (λ x. x) (λ x. absurd (omega (arith, other e (stopped-is x))))) ways,
+    λ x. kind-is (none-is x),
   )
 
   -- stopped otherwise: a further cell is reachable, and the goal is not among those before it
   pub stopped-exactly : (a .kind ≡ Kind.stopped) ↔ ((k < length (L t)) × (Reachable g s goal → k ≤ place goal (L t)))
   stopped-exactly = (
-    λ e. ⊎-elim (λ x. absurd (omega (arith, differ e (kind-found x)))) (⊎-elim (λ x. absurd (omega (arith, differ e (kind-none x)))) (λ x. x)) ways,
-    kind-stopped,
+    λ e. ⊎-elim (λ x. absurd (omega (arith, other e (found-is x)))) (⊎-elim (λ x. absurd (omega (arith, other e (none-is x)))) (λ x. x)) ways,
+    λ x. kind-is (stopped-is x),
   )
 
   -- A found route is the first least-cost route, and the number is its cost

@@ -45,6 +45,11 @@ code-answered Kind.found r = refl
 code-answered Kind.none r = refl
 code-answered Kind.stopped r = refl
 
+settled-answered : (k : Kind) (r : row.Answer) → numbersOf (answered k r) .settled ≡ r .settled
+settled-answered Kind.found r = refl
+settled-answered Kind.none r = refl
+settled-answered Kind.stopped r = refl
+
 module _ {f : Floor} {m : List ℕ} {q : Question} {r : Rooms} {a : Answer} {r′ : Rooms} (x : Searched f m q r a r′) where
   abbrev pub lines : Screen
   lines = screen (searchLines f m q r)
@@ -93,6 +98,10 @@ module _ {f : Floor} {m : List ℕ} {q : Question} {r : Rooms} {a : Answer} {r�
   -- an answer of that kind
   pub as-row : (k : Kind) → lines ≡ Passed → given .kind ≡ k → a ≡ answered k given
   as-row k p h = x .answer ∙ ap (λ (z : Screen). outcome z given) p ∙ ap (λ (k : Kind). answered k given) h
+
+  -- the settled count is the row's
+  pub settled-is : lines ≡ Passed → numbersOf a .settled ≡ given .settled
+  settled-is p = ap (λ (b : Answer). numbersOf b .settled) (as-row (given .kind) p refl) ∙ settled-answered (given .kind) given
 
   -- the first part of the room is the first least-cost route, and the number returned is its cost
   pub found-route : (s c l : ℕ) → a ≡ Found s c l

@@ -11,13 +11,12 @@ use Rattle.floor.specs.Step.{stepWeight, stepCost, target, graph}
 use Rattle.floor.proofs.Lengths.{cost-over-length, cost-under-length, floor-under-length, length-under-length}
 use Rattle.search.specs.declared.Answer.{Answer}
 use Rattle.search.specs.Search.{Question, Rooms, Searched}
-use Rattle.tender.specs.Third.{Third}
+use Rattle.tender.specs.Third.{Measured, Third}
 use Rattle.tender.proofs.Rowed.{found-route, stopped-below}
 
 module _ {f : Floor} {m : List ℕ} {q : Question} {r : Rooms} {a : Answer} {r′ : Rooms} (x : Searched f m q r a r′) where
-  -- The third condition of the tender
-  pub third-condition : Third f m q a (r′ .route)
-  third-condition = record {
+  of-search : Measured f m q a (r′ .route)
+  of-search = record {
     nearly-shortest = λ s c l e ds w.
         let y = found-route x s c l e in
         length-under-length f m (q .start) ds (w .allowed) (q .start) (take l (r′ .route)) (y .0 .route .allowed) (y .0 .least ds w);
@@ -25,6 +24,10 @@ module _ {f : Floor} {m : List ℕ} {q : Question} {r : Rooms} {a : Answer} {r�
     cost-below = λ s c l e. let y = found-route x s c l e in rw (y .1) at (cost-under-length f m (q .start) (take l (r′ .route)) (y .0 .route .allowed));
     floor-below = λ s c e ds w. floor-under-length f m (q .start) ds (w .allowed) c (stopped-below x s c e ds w);
   }
+
+-- The third condition of the tender
+pub third-condition : Third
+third-condition = record { search = λ f m q r a r′ x. of-search x }
 
 -- 01's example: two diagonal steps of weight 1 have T² = 8 and cost 198, and 2 × 198² = 9801 × 8, so the bound is reached
 abbrev ones : List ℕ

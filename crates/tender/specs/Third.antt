@@ -10,7 +10,7 @@ use Rattle.floor.specs.Length.{Surd, surd, square, atMost, times, squared, leng
 use Rattle.floor.specs.Step.{graph}
 use Rattle.search.specs.declared.Answer.{Answer}
 use Rattle.search.specs.declared.Answer.the-variants.{Found, Stopped}
-use Rattle.search.specs.Search.{Question}
+use Rattle.search.specs.Search.{Question, Rooms, Searched}
 
 -- the square of a route's true length, times k
 abbrev pub timesSquare : ℕ → Floor → List ℕ → Question → List ℕ → Surd
@@ -20,8 +20,8 @@ timesSquare k f m q ds = times k (squared (lengthOf f m (q .start) ds))
 abbrev pub twiceSquare : ℕ → Surd
 twiceSquare c = surd (2 * square c) 0
 
--- `route` is the route room after the search
-pub record Third (f : Floor) (m : List ℕ) (q : Question) (a : Answer) (route : List ℕ) : Type 0 where
+-- The answer a and the route room after a search
+pub record Measured (f : Floor) (m : List ℕ) (q : Question) (a : Answer) (route : List ℕ) : Type 0 where
   -- 9800 × its true length² ≤ 9801 × that of any allowed route for the same question
   pub nearly-shortest : (s c l : ℕ) → a ≡ Found s c l → (ds : List ℕ) → Route (graph f m) (q .start) (q .goal) ds
       → T (atMost (timesSquare 9800 f m q (take l route)) (timesSquare 9801 f m q ds))
@@ -31,3 +31,6 @@ pub record Third (f : Floor) (m : List ℕ) (q : Question) (a : Answer) (route :
   -- after a stop, 2 × floor² ≤ 9801 × the true length² of any allowed route to the goal
   pub floor-below : (s c : ℕ) → a ≡ Stopped s c → (ds : List ℕ) → Route (graph f m) (q .start) (q .goal) ds
       → T (atMost (twiceSquare c) (timesSquare 9801 f m q ds))
+
+pub record Third : Type 0 where
+  pub search : (f : Floor) (m : List ℕ) (q : Question) (r : Rooms) (a : Answer) (r′ : Rooms) → Searched f m q r a r′ → Measured f m q a (r′ .route)
