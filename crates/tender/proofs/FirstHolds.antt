@@ -41,7 +41,7 @@ use Rattle.claims.proofs.Claims.{route-refused-exactly, table-refused-exactly}
 use Rattle.search.specs.declared.Answer.{Answer}
 use Rattle.search.specs.declared.Answer.the-variants.{Found, None, Stopped}
 use Rattle.search.specs.Search.{Question, Rooms, searchLines, rowOf, answered, outcome, after, Searched}
-use Rattle.tender.specs.First.{Has, IsLowestLine, Refuses, rowsIn, IsFirstFault, First}
+use Rattle.tender.specs.FirstCondition.{Has, IsLowestLine, Refuses, rowsIn, IsFirstFault, FirstCondition}
 
 -- the numbers rise along the list, from above b on
 abbrev rising : ℕ → List Line → Bool
@@ -200,7 +200,7 @@ module _ (text room : List ℕ) (r : Read) (room′ : List ℕ) (x : IsRead text
   }
 
 -- The first condition of the tender, of refusals
-pub first-condition : First
+pub first-condition : FirstCondition
 first-condition = record {
   search = search-refuses;
   route-check = λ f m c n p. Iff·trans (route-refused-exactly f m c n p) (lowest-line (claimLines f m c) 0 tt n p);

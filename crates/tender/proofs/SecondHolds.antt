@@ -24,7 +24,7 @@ use Rattle.claims.specs.Table.{tableVerdict}
 use Rattle.claims.proofs.Claims.{holds-exactly, right-exactly, settles-none, settles-cost}
 use Rattle.search.specs.declared.Answer.{Answer}
 use Rattle.search.specs.Search.{Question, Rooms, searchLines, answered, after, Searched, numbersOf}
-use Rattle.tender.specs.Second.{Answers, Second}
+use Rattle.tender.specs.SecondCondition.{Answers, SecondCondition}
 use Rattle.tender.proofs.Rowed.{given, law, starts, ends, settled-is, from-row, as-row, found-route}
 
 module _ {f : Floor} {m : List ℕ} {q : Question} {r : Rooms} {a : Answer} {r′ : Rooms} (x : Searched f m q r a r′)
@@ -94,7 +94,7 @@ none-claimed f m s t right goal inside = (
     go (no n) no-route = let l = settles-cost f m s t right goal inside n in absurd (no-route (l .way, l .route))
 
 -- The second condition of the tender
-pub second-condition : Second
+pub second-condition : SecondCondition
 second-condition = record {
   search = λ f m q r a r′ x p t right.
       rw (right-unique (graph f m) (q .start) t (x .table) right (x .right p)) (of-search x p);

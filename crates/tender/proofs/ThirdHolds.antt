@@ -11,7 +11,7 @@ use Rattle.floor.specs.Step.{stepWeight, stepCost, target, graph}
 use Rattle.floor.proofs.Lengths.{cost-over-length, cost-under-length, floor-under-length, length-under-length}
 use Rattle.search.specs.declared.Answer.{Answer}
 use Rattle.search.specs.Search.{Question, Rooms, Searched}
-use Rattle.tender.specs.Third.{Measured, Third}
+use Rattle.tender.specs.ThirdCondition.{Measured, ThirdCondition}
 use Rattle.tender.proofs.Rowed.{found-route, stopped-below}
 
 module _ {f : Floor} {m : List ℕ} {q : Question} {r : Rooms} {a : Answer} {r′ : Rooms} (x : Searched f m q r a r′) where
@@ -26,7 +26,7 @@ module _ {f : Floor} {m : List ℕ} {q : Question} {r : Rooms} {a : Answer} {r�
   }
 
 -- The third condition of the tender
-pub third-condition : Third
+pub third-condition : ThirdCondition
 third-condition = record { search = λ f m q r a r′ x. of-search x }
 
 -- 01's example: two diagonal steps of weight 1 have T² = 8 and cost 198, and 2 × 198² = 9801 × 8, so the bound is reached

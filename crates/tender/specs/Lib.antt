@@ -1,4 +1,4 @@
 pub mod Cases
-pub mod First
-pub mod Second
-pub mod Third
+pub mod FirstCondition
+pub mod SecondCondition
+pub mod ThirdCondition

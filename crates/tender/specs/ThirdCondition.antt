@@ -32,5 +32,5 @@ pub record Measured (f : Floor) (m : List ℕ) (q : Question) (a : Answer) (rout
   pub floor-below : (s c : ℕ) → a ≡ Stopped s c → (ds : List ℕ) → Route (graph f m) (q .start) (q .goal) ds
       → T (atMost (twiceSquare c) (timesSquare 9801 f m q ds))
 
-pub record Third : Type 0 where
+pub record ThirdCondition : Type 0 where
   pub search : (f : Floor) (m : List ℕ) (q : Question) (r : Rooms) (a : Answer) (r′ : Rooms) → Searched f m q r a r′ → Measured f m q a (r′ .route)

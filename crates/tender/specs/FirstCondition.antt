@@ -44,7 +44,7 @@ abbrev pub IsFirstFault : List ℕ → ℕ → ℕ → ℕ → Type 0
 IsFirstFault text room n p = IsLowestLine (headerLines text room) n p ⊎ ((screen (headerLines text room) ≡ Passed) × (rowsIn text ≡ fault n p))
 
 -- The checks are lent nothing to write to: what they answer is all that they do
-pub record First : Type 0 where
+pub record FirstCondition : Type 0 where
   pub search : (f : Floor) (m : List ℕ) (q : Question) (r : Rooms) (a : Answer) (r′ : Rooms) → Searched f m q r a r′
       → Refuses (IsLowestLine (searchLines f m q r)) (λ n p. a ≡ Answer.Refused n p) (r′ ≡ r)
   pub route-check : (f : Floor) (m : List ℕ) (c : Claim) (n p : ℕ) → (routeVerdict f m c ≡ RouteVerdict.Refused n p) ↔ IsLowestLine (claimLines f m c) n p

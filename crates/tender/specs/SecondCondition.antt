@@ -46,7 +46,7 @@ pub record Answers (f : Floor) (m : List ℕ) (q : Question) (t : List ℕ) (a :
   pub costs : (v : ℕ) → v < cells f → place v (L t) < numbersOf a .settled → getD (r .costs) v 0 ≡ getD t v 0
   pub marks : (v : ℕ) → v < cells f → numbersOf a .settled ≤ place v (L t) → getD (r .costs) v 0 ≡ MARK
 
-pub record Second : Type 0 where
+pub record SecondCondition : Type 0 where
   pub search : (f : Floor) (m : List ℕ) (q : Question) (r : Rooms) (a : Answer) (r′ : Rooms) → Searched f m q r a r′
       → screen (searchLines f m q r) ≡ Passed → (t : List ℕ) → table.Right (graph f m) (q .start) t → Answers f m q t a r′
   -- "Claims not refused are accepted exactly when true": a route, a cost table, and a "none" by the table
