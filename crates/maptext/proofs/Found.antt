@@ -2,12 +2,12 @@
 use mathlib.Core.Path.{_≡_, refl, sym, ap, _∙_}
 use mathlib.Core.Bool.{true, _&&_}
 use mathlib.Core.List.{List, [], _∷_, _++_, map}
-use Prim.Native.Nat.{ℕ, zero, suc, _+_, _*_, _≤_}
-use native.Mathlib.Nat.{mul-comm, le-of-eq}
+use Prim.Native.Nat.{ℕ, zero, suc, _+_, _*_, _≤_, _<_}
+use native.Mathlib.Nat.{mul-comm, mul-pos, le-of-eq}
 use native.Mathlib.Omega.{arith}
 use borrow.Author.Tests.{eq-eqb, le-ltb, lt-ltb, le-leb}
 use lib.Dec.{eqb, ltb, ltb→lt, nltb→le}
-use lib.ListN.{length, getD, take, drop}
+use lib.ListN.{length, getD, take, drop, length-drop}
 use Rattle.paths.proofs.Bools.{by-cond, T-and}
 use Rattle.floor.specs.declared.Floor.{Floor}
 use Rattle.floor.specs.declared.Screen.{Screen}
@@ -99,17 +99,31 @@ module _ {text : List ℕ} {room w h : ℕ} {m : List ℕ} (x : IsFound text roo
       let n = none-given (headerLines text room) (x .passed) in
       rw (x .width, x .height) (nltb→le room (widthIn text * heightIn text) (n .1 .1 .1 .1 .0))
 
+  found-rows : judged (readRows w h (rowsAt text) (drop (rowsAt text) text)) ≡ Passed
+  found-rows = rw (x .rows)
+
+  pub found-bytes : m ≡ bytesIn w h (drop (rowsAt text) text)
+  found-bytes = whole-inj (sym (x .rows) ∙ whole-rows w h (rowsAt text) (drop (rowsAt text) text) found-rows)
+
+  found-length : length (drop (rowsAt text) text) ≡ h * suc w
+  found-length = rows-length w h (rowsAt text) (drop (rowsAt text) text) found-rows
+
   pub found-facts : MapFacts (record { width = w; height = h; ways = 8 }) m
   found-facts =
       let n = none-given (headerLines text room) (x .passed) in
-      let p : judged (readRows w h (rowsAt text) (drop (rowsAt text) text)) ≡ Passed = rw (x .rows) in
       let rest = drop (rowsAt text) text in
-      let bytes : m ≡ bytesIn w h rest = whole-inj (sym (x .rows) ∙ whole-rows w h (rowsAt text) rest p) in
       record {
         wide = rw (x .width) (side-positive _ _);
         wide-top = rw (x .width) (nltb→le greatestSide (widthIn text) (n .1 .1 .0));
         high = rw (x .height) (side-positive _ _);
         high-top = rw (x .height) (nltb→le greatestSide (heightIn text) (n .1 .0));
-        covers = rw bytes (bytes-length w h rest (le-of-eq (sym (rows-length w h (rowsAt text) rest p))) ∙ mul-comm h w);
-        weights = rw bytes (weights-bytes w h rest);
+        covers = rw found-bytes (bytes-length w h rest (le-of-eq (sym found-length)) ∙ mul-comm h w);
+        weights = rw found-bytes (weights-bytes w h rest);
       }
+
+  -- the rows are the text's last h × (w + 1) bytes
+  pub found-end : rowsAt text + h * suc w ≡ length text
+  found-end =
+      let some : 0 < suc w = omega arith in
+      let rows = mul-pos (found-facts .high) some in
+      omega (arith, found-length, length-drop (rowsAt text) text, rows)

@@ -1,5 +1,5 @@
 -- The header, line by line: what each refusal answers, and that the text goes on where the next line starts.
-use mathlib.Core.Path.{_≡_}
+use mathlib.Core.Path.{_≡_, refl}
 use mathlib.Core.Bool.{true, false}
 use mathlib.Core.List.{List}
 use Prim.Native.Nat.{ℕ, _+_, _*_, _≤_, _<_}
@@ -13,8 +13,8 @@ use Rattle.floor.specs.Place.{greatestSide}
 use Rattle.floor.specs.Refusal.{screen}
 use Rattle.maptext.specs.declared.Read.{Read}
 use Rattle.maptext.specs.Text.{typeLine, mapLine, sideLine}
-use Rattle.maptext.specs.Reading.{begins, sideIn, heightIn, widthAt, widthIn, mapAt, rowsAt, headerLines, readRows, ofRows, readingOf, IsRead}
-use Rattle.maptext.specs.Working.{IsGiven}
+use Rattle.maptext.specs.Reading.{Rows, whole, fault, begins, sideIn, heightIn, widthAt, widthIn, mapAt, rowsAt, headerLines, readRows, ofRows, readingOf, readFor}
+use Rattle.maptext.specs.Working.{judged, answerFor}
 use Rattle.maptext.proofs.Beginnings.{begins-length}
 use Rattle.maptext.proofs.Sides.{side-there}
 
@@ -46,38 +46,40 @@ module _ (text : List ℕ) (first : begins typeLine text ≡ true) where
         header-passed room h =
             rw (first, le-ltb greatestSide (heightIn text) second, le-ltb greatestSide (widthIn text) third, fourth, le-ltb room (widthIn text * heightIn text) h)
 
--- the answer at the first line that is not as it should be, and after them all
-module _ (text room : List ℕ) where
-  refused : (n p : ℕ) → screen (headerLines text (length room)) ≡ Refused n p → IsRead text room (Read.Refused n p) room
-  unfolding readingOf
-  refused n p e = record { answers = rw e; leaves = rw e }
+answer-of : (w h : ℕ) (x : Rows) → answerFor (judged x) w h ≡ readFor (ofRows w h x)
+answer-of w h (whole m) = refl
+answer-of w h (fault n p) = refl
 
-  pub refused-21 : begins typeLine text ≡ false → IsRead text room (Read.Refused 21 0) room
+-- the answer at the first line that is not as it should be, and after them all, for a cell room of that length
+module _ (text : List ℕ) (room : ℕ) where
+  refused : (n p : ℕ) → screen (headerLines text room) ≡ Refused n p → Read.Refused n p ≡ readFor (readingOf text room)
+  unfolding readingOf
+  refused n p e = rw e
+
+  pub refused-21 : begins typeLine text ≡ false → Read.Refused 21 0 ≡ readFor (readingOf text room)
   refused-21 e = refused 21 0 (rw e)
 
   module _ (first : begins typeLine text ≡ true) where
-    pub refused-22 : greatestSide < heightIn text → IsRead text room (Read.Refused 22 (length typeLine)) room
+    pub refused-22 : greatestSide < heightIn text → Read.Refused 22 (length typeLine) ≡ readFor (readingOf text room)
     refused-22 h = refused 22 (length typeLine) (rw (first, lt-ltb greatestSide (heightIn text) h))
 
     module _ (second : heightIn text ≤ greatestSide) where
-      pub refused-23 : greatestSide < widthIn text → IsRead text room (Read.Refused 23 (widthAt text)) room
+      pub refused-23 : greatestSide < widthIn text → Read.Refused 23 (widthAt text) ≡ readFor (readingOf text room)
       refused-23 h = refused 23 (widthAt text) (rw (first, le-ltb greatestSide (heightIn text) second, lt-ltb greatestSide (widthIn text) h))
 
       module _ (third : widthIn text ≤ greatestSide) where
-        pub refused-24 : begins mapLine (drop (mapAt text) text) ≡ false → IsRead text room (Read.Refused 24 (mapAt text)) room
+        pub refused-24 : begins mapLine (drop (mapAt text) text) ≡ false → Read.Refused 24 (mapAt text) ≡ readFor (readingOf text room)
         refused-24 e = refused 24 (mapAt text) (rw (first, le-ltb greatestSide (heightIn text) second, le-ltb greatestSide (widthIn text) third, e))
 
         module _ (fourth : begins mapLine (drop (mapAt text) text) ≡ true) where
-          pub refused-29 : length room < widthIn text * heightIn text → IsRead text room (Read.Refused 29 0) room
+          pub refused-29 : room < widthIn text * heightIn text → Read.Refused 29 0 ≡ readFor (readingOf text room)
           refused-29 h =
               refused 29 0
-              (rw (first, le-ltb greatestSide (heightIn text) second, le-ltb greatestSide (widthIn text) third, fourth, lt-ltb (length room) (widthIn text * heightIn text) h))
+              (rw (first, le-ltb greatestSide (heightIn text) second, le-ltb greatestSide (widthIn text) third, fourth, lt-ltb room (widthIn text * heightIn text) h))
 
-          pub rows-read : widthIn text * heightIn text ≤ length room → {w h from : ℕ} {r : Read} {room′ : List ℕ}
-              → w ≡ widthIn text → h ≡ heightIn text → from ≡ rowsAt text
-              → IsGiven (ofRows w h (readRows w h from (drop from text))) room r room′ → IsRead text room r room′
+          pub rows-judged : widthIn text * heightIn text ≤ room → {w h from : ℕ} → w ≡ widthIn text → h ≡ heightIn text → from ≡ rowsAt text
+              → answerFor (judged (readRows w h from (drop from text))) w h ≡ readFor (readingOf text room)
           unfolding readingOf
-          rows-read enough width height start g =
-              let e = header-passed text first second third fourth (length room) enough in
-              let x = rw (width, height, start) at g in
-              record { answers = rw e (x .answers); leaves = rw e (x .leaves) }
+          rows-judged enough width height start =
+              rw (header-passed text first second third fourth room enough, width, height, start)
+              (answer-of (widthIn text) (heightIn text) (readRows (widthIn text) (heightIn text) (rowsAt text) (drop (rowsAt text) text)))

@@ -10,4 +10,5 @@ pub mod Lengths
 pub mod Writing
 pub mod Back
 pub mod Found
+pub mod Storing
 pub mod Texts

@@ -1,21 +1,18 @@
 -- Rows in which nothing is refused: how long they are, and that their cells are the bytes that the second pass stores.
-use mathlib.Core.Path.{_≡_, refl, sym}
+use mathlib.Core.Path.{_≡_, refl}
 use mathlib.Core.Bool.{Bool, true, false, cond}
 use mathlib.Core.List.{List, [], _∷_, map}
 use Prim.Native.Nat.{ℕ, zero, suc, _+_, _*_, _≤_}
-use native.Mathlib.Nat.{suc-mul, mul-comm, le-of-eq}
+use native.Mathlib.Nat.{suc-mul}
 use native.Mathlib.Omega.{arith}
 use lib.Dec.{eqb}
 use lib.ListN.{length, take, drop, length-append, length-drop}
-use lib.Seq.{sets}
-use Rattle.floor.specs.declared.Screen.{Screen}
-use Rattle.floor.specs.declared.Screen.the-variants.{Passed, Refused}
+use Rattle.floor.specs.declared.Screen.the-variants.{Passed}
 use Rattle.maptext.specs.declared.Cell.{Cell}
 use Rattle.maptext.specs.declared.Cell.the-variants.{Weight, Blocked, NoCell}
 use Rattle.maptext.specs.Text.{LF}
-use Rattle.maptext.specs.Reading.{Rows, whole, fault, andThen, oneCell, cellOf, readRow, readRows, ofRows}
-use Rattle.maptext.specs.Working.{isCell, byteFor, byteOf, bytesIn, judged, hasPassed, answerFor, IsGiven}
-use Rattle.maptext.proofs.Rooms.{sets-whole}
+use Rattle.maptext.specs.Reading.{Rows, whole, fault, andThen, oneCell, cellOf, readRow, readRows}
+use Rattle.maptext.specs.Working.{isCell, byteFor, byteOf, bytesIn, judged}
 use Rattle.maptext.proofs.Judging.{row-there}
 use Rattle.maptext.proofs.Filling.{mapped-length}
 
@@ -66,17 +63,3 @@ bytes-length w (suc h) text k =
     let row : length (map byteOf (take w text)) ≡ w = mapped-length byteOf w text (omega (arith, suc-mul h (suc w))) in
     let rest = bytes-length w h (drop (suc w) text) (omega (arith, suc-mul h (suc w), length-drop (suc w) text)) in
     omega (arith, length-append (map byteOf (take w text)) (bytesIn w h (drop (suc w) text)), row, rest, suc-mul h w)
-
-pub passed-is : (s : Screen) → hasPassed s ≡ true → s ≡ Passed
-passed-is Passed e = refl
-passed-is (Refused n p) e = let z : _≡_ {A = ℕ} 0 1 = cc in absurd (omega arith)
-
-pub given-fault : (w h : ℕ) (x : Rows) (room : List ℕ) → hasPassed (judged x) ≡ false → IsGiven (ofRows w h x) room (answerFor (judged x) w h) room
-given-fault w h (whole m) room e = let z : _≡_ {A = ℕ} 0 1 = cc in absurd (omega arith)
-given-fault w h (fault n p) room e = record { answers = refl; leaves = refl }
-
-pub given-whole : (w h at : ℕ) (text room : List ℕ) → judged (readRows w h at text) ≡ Passed → w * h ≤ length room
-    → IsGiven (ofRows w h (readRows w h at text)) room (answerFor (judged (readRows w h at text)) w h) (sets room 0 (bytesIn w h text))
-given-whole w h at text room e k =
-    let size = bytes-length w h text (le-of-eq (sym (rows-length w h at text e))) in
-    rw (whole-rows w h at text e) (record { answers = refl; leaves = sets-whole (bytesIn w h text) room (omega (arith, mul-comm w h)) })

@@ -14,7 +14,7 @@ use Rattle.maptext.specs.declared.Cell.the-variants.{Weight, Blocked, No
 use Rattle.maptext.specs.declared.Read.{Read}
 use Rattle.maptext.specs.declared.Read.the-variants.{Map}
 use Rattle.maptext.specs.Text.{heightWord}
-use Rattle.maptext.specs.Reading.{Rows, whole, fault, Reading, cellOf, readFor, cellsLeft}
+use Rattle.maptext.specs.Reading.{Rows, whole, fault, cellOf}
 
 abbrev pub isCell : Cell → Bool
 isCell (Weight n) = true
@@ -40,19 +40,10 @@ abbrev pub judged : Rows → Screen
 judged (whole m) = Passed
 judged (fault n p) = Refused n p
 
-abbrev pub hasPassed : Screen → Bool
-hasPassed Passed = true
-hasPassed (Refused n p) = false
-
 -- the reader's answer, from what was found in the rows
 abbrev pub answerFor : Screen → ℕ → ℕ → Read
 answerFor Passed w h = Map (record { width = w; height = h; ways = 8 })
 answerFor (Refused n p) w h = Read.Refused n p
-
--- a reading is answered, and its cells are left in the room
-pub record IsGiven (x : Reading) (room : List ℕ) (r : Read) (room′ : List ℕ) : Type 0 where
-  pub answers : r ≡ readFor x
-  pub leaves : room′ ≡ cellsLeft x room
 
 -- the number that the digits at the beginning of a text give, read on from n; it stops at a number of four digits, which no side exceeds
 abbrev pub runValue : ℕ → List ℕ → ℕ

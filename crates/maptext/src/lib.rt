@@ -6,6 +6,7 @@ mod reader; // reader.rt: from a text to a map
 mod writer; // writer.rt: from a map to a text
 
 use floor::Floor;
+pub use reader::judge_map;
 pub use reader::read_map;
 pub use writer::write_map;
 

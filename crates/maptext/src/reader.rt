@@ -4,8 +4,8 @@ ghost use mathlib.Core.List.{map};
 ghost use Prim.Native.Nat.{suc, _+_, _*_, _^_, _≤_, _<_};
 ghost use lib.ListN.{length, take, drop};
 ghost use lib.Seq.{sets};
-ghost use Rattle.maptext.specs.Reading.{readRow, readRows, ofRows, IsRead};
-ghost use Rattle.maptext.specs.Working.{judged, hasPassed, answerFor, IsGiven, byteOf, bytesIn};
+ghost use Rattle.maptext.specs.Reading.{readRow, readRows, readingOf, readFor, IsRead};
+ghost use Rattle.maptext.specs.Working.{judged, answerFor, byteOf, bytesIn};
 use crate::Read;
 use crate::chars::byte_of;
 use crate::chars::is_cell;
@@ -90,15 +90,6 @@ fn fill_rows(width: usize, height: usize, from: usize, text: &[u8], cells: &mut 
     }
 }
 
-fn has_passed(found: Screen) -> bool
-    ensures { λ r. ⌜ r ≡ hasPassed found ⌝ }
-{
-    match found {
-        Screen::Passed => true,
-        Screen::Refused(_, _) => false,
-    }
-}
-
 // 01: the reader always returns 8 for ways.
 fn answer(found: Screen, width: usize, height: usize) -> Read
     ensures { λ r. ⌜ r ≡ answerFor found width height ⌝ }
@@ -113,22 +104,9 @@ fn answer(found: Screen, width: usize, height: usize) -> Read
     }
 }
 
-// The rows are judged before the first byte is stored: a fault can come late, and a refusal alters nothing.
-fn read_rows(width: usize, height: usize, from: usize, text: &[u8], cells: &mut [u8]) -> Read
-    requires { ⌜ (from ≤ length (now text)) × (width * height ≤ length (now cells)) ⌝ }
-    ensures { λ r. ⌜ IsGiven (ofRows width height (readRows width height from (drop from (now (text .entry))))) (now (cells .entry)) r (now (cells .exit)) ⌝ }
-{
-    let found = judge_rows(width, height, from, text);
-    let passed = has_passed(found);
-    if passed {
-        fill_rows(width, height, from, text, cells);
-    }
-    answer(found, width, height)
-}
-
-// 01: "Reader's refusals", in that order.
-pub fn read_map(text: &[u8], cells: &mut [u8]) -> Read
-    ensures { λ r. ⌜ IsRead (now (text .entry)) (now (cells .entry)) r (now (cells .exit)) ⌝ }
+// What the reader answers for a cell room of that length, with nothing stored. 01: "Reader's refusals", in that order.
+pub fn judge_map(text: &[u8], room: usize) -> Read
+    ensures { λ r. ⌜ r ≡ readFor (readingOf (now (text .entry)) room) ⌝ }
 {
     if begins_at(b"type octile\n", text, 0) {
         // 12 is the length of the first line, and 4, below, of the fourth.
@@ -143,12 +121,29 @@ pub fn read_map(text: &[u8], cells: &mut [u8]) -> Read
         }
         let map_at = width_at + side_line_length(b"width ", width);
         if begins_at(b"map\n", text, map_at) {
-            if cells.len() < width * height {
+            if room < width * height {
                 return Read::Refused(29, 0);
             }
-            return read_rows(width, height, map_at + 4, text, cells);
+            let found = judge_rows(width, height, map_at + 4, text);
+            return answer(found, width, height);
         }
         return Read::Refused(24, map_at);
     }
     Read::Refused(21, 0)
+}
+
+// The whole text is judged before the first byte is stored: a fault can come late, and a refusal alters nothing.
+pub fn read_map(text: &[u8], cells: &mut [u8]) -> Read
+    ensures { λ r. ⌜ IsRead (now (text .entry)) (now (cells .entry)) r (now (cells .exit)) ⌝ }
+{
+    let judged = judge_map(text, cells.len());
+    let Read::Map(f) = judged else {
+        return judged;
+    };
+    let width = f.width;
+    let height = f.height;
+    // Nothing stands after the rows.
+    let from = text.len() - height * (width + 1);
+    fill_rows(width, height, from, text, cells);
+    judged
 }
