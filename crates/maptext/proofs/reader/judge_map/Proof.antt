@@ -1,5 +1,5 @@
 -- What is known grows line by line, as `Headers` has it: each return gives one of its refusals, or what the rows are judged to be.
-use mathlib.Core.Path.{_≡_, sym, _∙_}
+use mathlib.Core.Path.{_≡_, sym, ap, _∙_}
 use mathlib.Core.Bool.{true}
 use mathlib.Core.List.{List}
 use Prim.Native.Nat.{ℕ, _+_, _*_, _≤_}
@@ -7,9 +7,11 @@ use native.Mathlib.Nat.{mul-le-mul}
 use native.Mathlib.Omega.{arith}
 use borrow.Author.Needs.{needs}
 use lib.ListN.{length, drop}
+use Rattle.floor.specs.declared.Screen.{Screen}
 use Rattle.floor.specs.Place.{greatestSide}
 use Rattle.maptext.specs.Text.{typeLine, mapLine}
 use Rattle.maptext.specs.Reading.{begins, heightIn, widthAt, widthIn, mapAt}
+use Rattle.maptext.specs.Working.{answerFor}
 use Rattle.maptext.proofs.Headers.{refused-21, refused-22, refused-23, refused-24, refused-29, rows-judged, height-within, width-within, map-within, rows-within}
 use Rattle.maptext.proofs.reader.judge_map.Statement.{statement}
 use Rattle.maptext.proofs.reader.judge_map.Tie as tie
@@ -155,13 +157,14 @@ returns-4 c =
     let j = c .before in
     let d = j .before .before in
     let width = d .before .before .before .before .before .before in
+    let height = width .before .before .before .before .before in
     let e = line₃ d in
     c .answer .ensures
-    ∙ rw (j .judge-rows .ensures)
-    (rows-judged _ _ (first (line₁ (line₂ e))) (second (line₂ e)) (third e) (fourth d) (omega (arith, product d, j .before .if5 .left))
+    ∙ ap (λ (x : Screen). answerFor x (width .side-at2 .result) (height .side-at .result)) (j .judge-rows .ensures)
+    ∙ rows-judged _ _ (first (line₁ (line₂ e))) (second (line₂ e)) (third e) (fourth d) (omega (arith, product d, j .before .if5 .left))
     (width-is width)
-    (width .before .before .before .before .before .side-at .ensures)
-    (cc (map-at (d .before .before .before))))
+    (height .side-at .ensures)
+    (cc (map-at (d .before .before .before)))
 
 returns-5 : tie.Need-returns-5
 returns-5 c =
