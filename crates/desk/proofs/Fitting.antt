@@ -1,0 +1,163 @@
+-- Every number of an answer has room in its field: settled counts and routes are no longer than the floor has cells, costs are at most MARK, and a
+-- stopped search has settled as many cells as the question's limit, which came from four bytes.
+use mathlib.Core.Path.{_≡_, refl, sym, _∙_}
+use mathlib.Core.Logic.{_≢_}
+use mathlib.Core.Bool.{Bool, true, cond, _&&_}
+use mathlib.Core.List.{List, [], _∷_}
+use Prim.Native.Nat.{ℕ, _+_, _≤_, _<_}
+use native.Mathlib.Decide.{ℕ-discrete, decLt}
+use native.Mathlib.Omega.{arith}
+use lib.Dec.{T, eqb, leb, ltb, ltb→lt}
+use lib.ListN.{length, getD, take, drop, length-take, List·getD-eq-default}
+use lib.Seq.{getD-take, getD-drop}
+use Rattle.paths.specs.Graph.{MARK}
+use Rattle.paths.specs.First.{firstRoute}
+use Rattle.paths.specs.Table.{Right}
+use Rattle.paths.specs.Order.{known, L, place}
+use Rattle.paths.specs.Answer as row
+use Rattle.paths.specs.Answer.{answerOf}
+use Rattle.paths.proofs.Bools.{T-and, by-cond}
+use Rattle.paths.proofs.Below.{count-le}
+use Rattle.paths.proofs.Orders.{In, known-is, in-known, place-absent, length-sorted}
+use Rattle.paths.proofs.Meaning.{reachable-known, one-first-route, first-route-cost, least-cost-route-short}
+use Rattle.floor.specs.declared.Floor.{Floor}
+use Rattle.floor.specs.declared.Screen.{Screen}
+use Rattle.floor.specs.declared.Screen.the-variants.{Passed, Refused}
+use Rattle.floor.specs.Place.{cells}
+use Rattle.floor.specs.Refusal.{Line, screen, HasPassed}
+use Rattle.floor.specs.Step.{graph}
+use Rattle.floor.proofs.Passing.{facts, few-cells}
+use Rattle.floor.proofs.Laws.{lawful, least-cost-bound}
+use Rattle.floor.proofs.Questions.{question-passed, start-inside, goal-inside}
+use Rattle.search.specs.declared.Answer.{Answer}
+use Rattle.search.specs.declared.AnswerNumbers.{AnswerNumbers}
+use Rattle.search.specs.Search.{Question, Rooms, searchLines, rowOf, answered, outcome, Searched, numbersOf}
+use Rattle.search.proofs.Lending.{search-question}
+use Rattle.desk.specs.Record.{numberAt, questionIn}
+use Rattle.desk.specs.Desk.{Asked, no-zeros, searched}
+
+pub record InRecord (n : AnswerNumbers) : Type 0 where
+  pub kind-fits : n .kind < 256
+  pub refusal-fits : n .refusal < 256
+  pub settled-fits : n .settled ≤ MARK
+  pub number-fits : n .number ≤ MARK
+  pub length-fits : n .length ≤ MARK
+
+-- lines with numbers below k refuse with such a number
+abbrev numbersBelow : ℕ → List Line → Bool
+numbersBelow k [] = true
+numbersBelow k (l ∷ ls) = ltb (l .number) k && numbersBelow k ls
+
+abbrev NumberBelow : ℕ → Screen → Type 0
+NumberBelow k Passed = Unit {0}
+NumberBelow k (Refused n p) = n < k
+
+screen-below : (k : ℕ) (ls : List Line) → T (numbersBelow k ls) → NumberBelow k (screen ls)
+screen-below k [] t = tt
+screen-below k (l ∷ ls) t =
+    let a = T-and (ltb (l .number) k) (numbersBelow k ls) t in
+    by-cond (NumberBelow k) (l .given) _ _ (λ h. ltb→lt (l .number) k (a .0)) (λ h. screen-below k ls (a .1))
+
+abbrev RowFits : row.Answer → Type 0
+RowFits a = InRecord (numbersOf (answered (a .kind) a))
+
+module _ (f : Floor) (m : List ℕ) (passed : HasPassed f m) (s : ℕ) (start : s < cells f) (t : List ℕ) (right : Right (graph f m) s t) where
+  few : cells f < MARK
+  few = omega (arith, few-cells (facts f m passed .map))
+
+  entry-fits : (v : ℕ) → getD t v 0 ≤ MARK
+  entry-fits v = elim (decLt v (cells f)) [
+    | yes h ↦ elim (ℕ-discrete (getD t v 0) MARK) [
+      | yes e ↦ omega arith
+      | no n ↦ omega (arith, least-cost-bound f m passed s v (getD t v 0) start (right .reached v h n))
+    ]
+    | no h ↦ omega (arith, List·getD-eq-default t 0 {n = v} (omega (arith, right .covers)))
+  ]
+
+  listed : length (L t) ≤ cells f
+  listed = omega (arith, length-sorted t (length t), count-le (known t) (length t), right .covers)
+
+  route-fits : (goal : ℕ) → goal < cells f → place goal (L t) < length (L t) → length (firstRoute (graph f m) s t goal) < cells f
+  route-fits goal h p = elim (ℕ-discrete (getD t goal 0) MARK) [
+    | yes e ↦ absurd (omega (arith, place-absent goal (L t) (λ i. known-is t goal (in-known t goal (length t) i .1) e)))
+    | no n ↦
+        let law = lawful f m passed in
+        let x = reachable-known law s start t right goal h .1 n in
+        least-cost-route-short law s start goal (getD t goal 0) (right .reached goal h n) (firstRoute (graph f m) s t goal)
+        (one-first-route law s start t right goal x .0 .route)
+        (first-route-cost law s start t right goal x)
+  ]
+
+  row-fits : (goal k : ℕ) → goal < cells f → k ≤ MARK → RowFits (answerOf (graph f m) s t goal k)
+  unfolding answerOf
+  row-fits goal k h small =
+      let n = length (L t) in
+      let i = place goal (L t) in
+      by-cond RowFits (ltb i n && ltb i k) _ _
+      (λ b.
+      let below = ltb→lt i n (T-and (ltb i n) (ltb i k) b .0) in
+      record {
+        kind-fits = omega arith;
+        refusal-fits = omega arith;
+        settled-fits = omega (arith, few, listed, below);
+        number-fits = entry-fits goal;
+        length-fits = omega (arith, few, route-fits goal h below);
+      })
+      (λ b.
+      by-cond RowFits (eqb i n && leb n k) _ _
+      (λ c.
+      record {
+        kind-fits = omega arith;
+        refusal-fits = omega arith;
+        settled-fits = omega (arith, few, listed);
+        number-fits = omega arith;
+        length-fits = omega arith;
+      })
+      (λ c.
+      record {
+        kind-fits = omega arith;
+        refusal-fits = omega arith;
+        settled-fits = small;
+        number-fits = entry-fits (getD (L t) k 0);
+        length-fits = omega arith;
+      }))
+
+refusal-in-record : (n p : ℕ) → n < 256 → InRecord (numbersOf (Answer.Refused n p))
+refusal-in-record n p h = record {
+  kind-fits = omega arith;
+  refusal-fits = h;
+  settled-fits = omega arith;
+  number-fits = omega arith;
+  length-fits = omega arith;
+}
+
+searched-fits : (f : Floor) (m : List ℕ) (q : Question) (r : Rooms) {a : Answer} {r′ : Rooms} → q .limit ≤ MARK → Searched f m q r a r′
+    → InRecord (numbersOf a)
+searched-fits f m q r small x = rw (x .answer) (go (screen (searchLines f m q r)) refl (screen-below 12 (searchLines f m q r) tt))
+  where
+    go : (s : Screen) → screen (searchLines f m q r) ≡ s → NumberBelow 12 s → InRecord (numbersOf (outcome s (rowOf f m q (x .table))))
+    go Passed e b =
+        let p = search-question f m q r e in
+        row-fits f m (question-passed f m (q .start) (q .goal) p) (q .start) (start-inside f m (q .start) (q .goal) p) (x .table) (x .right e)
+        (q .goal)
+        (q .limit)
+        (goal-inside f m (q .start) (q .goal) p)
+        small
+    go (Refused n p) e b = refusal-in-record n p (omega arith)
+
+-- a number of four bytes
+number-small : (bytes : List ℕ) (at : ℕ) → ((v : ℕ) → getD bytes v 0 < 256) → numberAt bytes at ≤ MARK
+number-small bytes at small = omega (arith, small at, small (at + 1), small (at + 2), small (at + 3))
+
+-- the numbers of every answer to a question fit their fields
+pub answers-fit : (f : Floor) (m question : List ℕ) (r : Rooms) {a : Answer} {r′ : Rooms} → ((v : ℕ) → getD question v 0 < 256) → Asked f m question r a r′
+    → InRecord (numbersOf a)
+answers-fit f m question r small (no-zeros z e l) = rw e (refusal-in-record 13 0 (omega arith))
+answers-fit f m question r small (searched z x) = searched-fits _ m (questionIn question) r (number-small question 8 small) x
+
+-- bytes are small in every part of a list of bytes
+pub small-part : (bytes : List ℕ) (at n : ℕ) → ((v : ℕ) → getD bytes v 0 < 256) → (v : ℕ) → getD (take n (drop at bytes)) v 0 < 256
+small-part bytes at n small v = elim (decLt v n) [
+  | yes h ↦ rw (getD-take n (drop at bytes) v 0 h, getD-drop at bytes v 0) (small (at + v))
+  | no h ↦ omega (arith, List·getD-eq-default (take n (drop at bytes)) 0 {n = v} (omega (arith, length-take n (drop at bytes))))
+]

@@ -1,0 +1,21 @@
+-- Bytes that are looked at one after the other for being 0.
+use mathlib.Core.Path.{_≡_}
+use mathlib.Core.Logic.{_≢_}
+use mathlib.Core.Bool.{true, false}
+use mathlib.Core.List.{List}
+use Prim.Native.Nat.{ℕ, _+_, _≤_, _<_}
+use native.Mathlib.Numerals.{add-one}
+use borrow.Author.Tests.{eq-eqb, ne-eqb}
+use lib.ListN.{length, getD, drop, drop-of-length-le}
+use lib.Seq.{drop-cons}
+use Rattle.desk.specs.Record.{allZero}
+
+module _ (bytes : List ℕ) (i : ℕ) where
+  pub zero-here : i < length bytes → getD bytes i 0 ≡ 0 → allZero (drop i bytes) ≡ allZero (drop (i + 1) bytes)
+  zero-here h e = rw (drop-cons bytes i 0 h, eq-eqb (getD bytes i 0) 0 e, add-one)
+
+  pub other-here : i < length bytes → getD bytes i 0 ≢ 0 → allZero (drop i bytes) ≡ false
+  other-here h n = rw (drop-cons bytes i 0 h, ne-eqb (getD bytes i 0) 0 n)
+
+  pub none-left : length bytes ≤ i → allZero (drop i bytes) ≡ true
+  none-left h = rw (drop-of-length-le bytes h)

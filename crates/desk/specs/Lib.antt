@@ -1,0 +1,4 @@
+pub mod Use
+pub mod Record
+pub mod Desk
+pub mod Working
