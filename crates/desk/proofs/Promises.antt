@@ -43,14 +43,6 @@ one-answering f m bytes r x y =
     let all = one-answered f m (wholeRecords bytes) bytes r (x .records) (y .records) in
     (x .bytes-answered ∙ sym (y .bytes-answered), all .0, all .1)
 
--- a number is read back from its four bytes
-pub number-back : (n : ℕ) → n < 4294967296 → numberAt (little n) 0 ≡ n
-number-back n h =
-    let two : n % 65536 ≡ n / 256 % 256 * 256 + n % 256 = mod-mul n {m = 256} {c = 256} (omega arith) (omega arith) in
-    let three : n % 16777216 ≡ n / 65536 % 256 * 65536 + n % 65536 = mod-mul n {m = 256} {c = 65536} (omega arith) (omega arith) in
-    let four : n % 4294967296 ≡ n / 16777216 % 256 * 16777216 + n % 16777216 = mod-mul n {m = 256} {c = 16777216} (omega arith) (omega arith) in
-    omega (arith, two, three, four, mod-eq-of-lt h)
-
 -- 01's example: the question, and what its answer is written as
 abbrev example : List ℕ
 example = 0 ∷ 0 ∷ 0 ∷ 0 ∷ 2 ∷ 0 ∷ 0 ∷ 0 ∷ 5 ∷ 0 ∷ 0 ∷ 0 ∷ 8 ∷ 0 ∷ 0 ∷ 0 ∷ []
@@ -61,3 +53,11 @@ example-question = (refl, refl, refl)
 pub example-answer : recordOf (Found 5 280 4) ≡ 1 ∷ 0 ∷ 0 ∷ 0 ∷ 5 ∷ 0 ∷ 0 ∷ 0 ∷ 24 ∷ 1 ∷ 0 ∷ 0 ∷ 4 ∷ 0 ∷ 0 ∷ 0 ∷ []
 unfolding recordOf
 example-answer = refl
+
+-- a number is read back from its four bytes
+pub number-back : (n : ℕ) → n < 4294967296 → numberAt (little n) 0 ≡ n
+number-back n h =
+    let two : n % 65536 ≡ n / 256 % 256 * 256 + n % 256 = mod-mul n {m = 256} {c = 256} (omega arith) (omega arith) in
+    let three : n % 16777216 ≡ n / 65536 % 256 * 65536 + n % 65536 = mod-mul n {m = 256} {c = 65536} (omega arith) (omega arith) in
+    let four : n % 4294967296 ≡ n / 16777216 % 256 * 16777216 + n % 16777216 = mod-mul n {m = 256} {c = 16777216} (omega arith) (omega arith) in
+    omega (arith, two, three, four, mod-eq-of-lt h)

@@ -1,8 +1,8 @@
 -- The zeros are looked at first; then the question is asked as it was read.
-use mathlib.Core.Path.{_≡_, refl, sym, _∙_}
+use mathlib.Core.Path.{_≡_, refl, sym, ap, _∙_}
 use borrow.Author.Needs.{needs}
 use borrow.Rule.Slice.PartAt.{part-to-end}
-use Rattle.desk.specs.Record.{endsInZeros}
+use Rattle.desk.specs.Record.{allZero, endsInZeros}
 use Rattle.desk.specs.Desk.{no-zeros}
 use Rattle.desk.proofs.Asking.{asked-as-read}
 use Rattle.desk.proofs.records.ask.Statement.{statement}
@@ -55,7 +55,7 @@ start c = c .before .before .before .before .before .before .before
 
 -- what `all_zero` said of the part is said of the question's last bytes
 looked : (c : tie.After-all-zero) → c .all-zero .result ≡ endsInZeros (start c .args .question .now)
-looked c = rw (part-to-end (start c .args .question .now) 13) at (c .all-zero .ensures)
+looked c = c .all-zero .ensures ∙ ap allZero (part-to-end (start c .args .question .now) 13)
 
 returns : tie.Need-returns
 returns c =
