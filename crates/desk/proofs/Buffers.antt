@@ -1,7 +1,7 @@
 -- A buffer whose records are answered one after the other: whoever answers the records that are left has answered them all.
 use mathlib.Core.Path.{_≡_, refl, sym, ap, _∙_, subst}
 use mathlib.Core.List.{List, _++_, append-assoc}
-use Prim.Native.Nat.{ℕ, zero, suc, _+_, _-_, _*_, _≤_, _<_}
+use Prim.Native.Nat.{ℕ, suc, _+_, _-_, _*_, _≤_, _<_}
 use native.Mathlib.Nat.{div-add-mod'}
 use native.Mathlib.Omega.{arith}
 use lib.ListN.{length, take, drop, take-append-drop}
@@ -10,7 +10,7 @@ use Rattle.floor.specs.declared.Floor.{Floor}
 use Rattle.search.specs.declared.Answer.{Answer}
 use Rattle.search.specs.Search.{Rooms}
 use Rattle.desk.specs.Record.{recordSize, recordOf}
-use Rattle.desk.specs.Desk.{Asked, Answered, AnsweredFirst, wholeRecords, IsAnswered}
+use Rattle.desk.specs.Desk.{Asked, Answered, wholeRecords, IsAnswered}
 use Rattle.desk.specs.Working.{AnsweredAt}
 
 pub record-length : (a : Answer) → length (recordOf a) ≡ recordSize

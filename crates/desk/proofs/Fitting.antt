@@ -1,8 +1,7 @@
 -- Every number of an answer has room in its field: settled counts and routes are no longer than the floor has cells, costs are at most MARK, and a
 -- stopped search has settled as many cells as the question's limit, which came from four bytes.
-use mathlib.Core.Path.{_≡_, refl, sym, _∙_}
-use mathlib.Core.Logic.{_≢_}
-use mathlib.Core.Bool.{Bool, true, cond, _&&_}
+use mathlib.Core.Path.{_≡_, refl}
+use mathlib.Core.Bool.{Bool, true, _&&_}
 use mathlib.Core.List.{List, [], _∷_}
 use Prim.Native.Nat.{ℕ, _+_, _≤_, _<_}
 use native.Mathlib.Decide.{ℕ-discrete, decLt}
@@ -18,7 +17,7 @@ use Rattle.paths.specs.Answer as row
 use Rattle.paths.specs.Answer.{answerOf}
 use Rattle.paths.proofs.Bools.{T-and, by-cond}
 use Rattle.paths.proofs.Below.{count-le}
-use Rattle.paths.proofs.Orders.{In, known-is, in-known, place-absent, length-sorted}
+use Rattle.paths.proofs.Orders.{known-is, in-known, place-absent, length-sorted}
 use Rattle.paths.proofs.Meaning.{reachable-known, one-first-route, first-route-cost, least-cost-route-short}
 use Rattle.floor.specs.declared.Floor.{Floor}
 use Rattle.floor.specs.declared.Screen.{Screen}

@@ -1,12 +1,12 @@
 -- The promises leave nothing open, and 01's example holds of the definitions.
-use mathlib.Core.Path.{_≡_, refl, sym, ap, _∙_, subst}
-use mathlib.Core.Bool.{true, false}
-use mathlib.Core.List.{List, [], _∷_, _++_}
+use mathlib.Core.Path.{_≡_, refl, sym, _∙_, subst}
+use mathlib.Core.Bool.{true}
+use mathlib.Core.List.{List, [], _∷_}
 use Prim.Native.Nat.{ℕ, zero, suc, _+_, _*_, _/_, _%_, _<_}
 use native.Mathlib.Nat.{mod-eq-of-lt}
 use native.Mathlib.Omega.{arith}
 use lib.Arith.{mod-mul}
-use lib.ListN.{length, take, drop}
+use lib.ListN.{take, drop}
 use Rattle.floor.specs.declared.Floor.{Floor}
 use Rattle.maptext.specs.declared.Read.{Read}
 use Rattle.search.specs.declared.Answer.{Answer}
@@ -15,7 +15,7 @@ use Rattle.search.specs.Search.{Rooms, question}
 use Rattle.search.proofs.Promise.{one-search}
 use Rattle.desk.specs.Use.{IsUsed}
 use Rattle.desk.specs.Record.{recordSize, little, numberAt, questionIn, waysIn, endsInZeros, recordOf}
-use Rattle.desk.specs.Desk.{Asked, no-zeros, searched, Answered, AnsweredFirst, wholeRecords, IsAnswered}
+use Rattle.desk.specs.Desk.{Asked, no-zeros, searched, Answered, wholeRecords, IsAnswered}
 
 -- a second result and room that meet the promise of `use_map` are equal
 pub one-use : (text room : List ℕ) {r s : Read} {room₁ room₂ : List ℕ} → IsUsed text room r room₁ → IsUsed text room s room₂ → (r ≡ s) × (room₁ ≡ room₂)

@@ -1,4 +1,6 @@
 pub mod CasesHold
+pub mod Lines
+pub mod Unread
 pub mod FirstHolds
 pub mod Rowed
 pub mod SecondHolds

@@ -2,9 +2,9 @@
 -- That every call ends, keeps to the memory lent to it and relies on no check by its caller is not said here: no crate builds otherwise (docs/PROMISES.md).
 use mathlib.Core.Path.{_≡_}
 use mathlib.Core.Logic.{_↔_, _⊎_}
-use mathlib.Core.Bool.{true}
+use mathlib.Core.Bool.{true, false}
 use mathlib.Core.List.{List, [], _∷_}
-use Prim.Native.Nat.{ℕ, _≤_}
+use Prim.Native.Nat.{ℕ, _≤_, _<_}
 use lib.Dec.{T}
 use lib.ListN.{length, drop}
 use Rattle.floor.specs.declared.Floor.{Floor}
@@ -13,13 +13,16 @@ use Rattle.floor.specs.Refusal.{Line, line, screen, mapLines, floorLines, quest
 use Rattle.maptext.specs.declared.Read.{Read}
 use Rattle.maptext.specs.declared.Written.{Written}
 use Rattle.maptext.specs.Text.{writeLines, IsWritten}
-use Rattle.maptext.specs.Reading.{Rows, fault, readRows, heightIn, widthIn, rowsAt, headerLines, IsRead}
+use Rattle.maptext.specs.Reading.{Rows, fault, readRows, heightIn, widthIn, rowsAt, headerLines, read, readingOf, IsRead}
 use Rattle.claims.specs.declared.RouteVerdict.{RouteVerdict}
 use Rattle.claims.specs.declared.TableVerdict.{TableVerdict}
 use Rattle.claims.specs.Route.{Claim, claimLines, routeVerdict}
 use Rattle.claims.specs.Table.{tableLines, tableVerdict}
 use Rattle.search.specs.declared.Answer.{Answer}
 use Rattle.search.specs.Search.{Question, Rooms, searchLines, Searched}
+use Rattle.desk.specs.Use.{greatestText, greatestUsedSide, IsUsed}
+use Rattle.desk.specs.Record.{questionIn, waysIn, endsInZeros}
+use Rattle.desk.specs.Desk.{withWays, Asked}
 
 -- the line is one of the list
 abbrev pub Has : Line → List Line → Type 0
@@ -43,6 +46,19 @@ rowsIn text = readRows (widthIn text) (heightIn text) (rowsAt text) (drop (rowsA
 abbrev pub IsFirstFault : List ℕ → ℕ → ℕ → ℕ → Type 0
 IsFirstFault text room n p = IsLowestLine (headerLines text room) n p ⊎ ((screen (headerLines text room) ≡ Passed) × (rowsIn text ≡ fault n p))
 
+-- the program's map: a text that is too long; then what the reader refuses; then a side that is too great
+pub data IsUnusable (text : List ℕ) (room n p : ℕ) : Type 0 where
+  too-long : greatestText < length text → n ≡ 14 → p ≡ 0 → IsUnusable text room n p
+  unread : length text ≤ greatestText → IsFirstFault text room n p → IsUnusable text room n p
+  too-great : length text ≤ greatestText → (w h : ℕ) (m : List ℕ) → readingOf text room ≡ read w h m → (greatestUsedSide < w) ⊎ (greatestUsedSide < h)
+      → n ≡ 14 → p ≡ 0 → IsUnusable text room n p
+
+-- a question record: 13 is decided before all others; then what the search refuses
+pub data IsRefusable (f : Floor) (m question : List ℕ) (r : Rooms) (n p : ℕ) : Type 0 where
+  zeros-missing : endsInZeros question ≡ false → n ≡ 13 → p ≡ 0 → IsRefusable f m question r n p
+  not-searched : endsInZeros question ≡ true → IsLowestLine (searchLines (withWays f (waysIn question)) m (questionIn question) r) n p
+      → IsRefusable f m question r n p
+
 -- The checks are lent nothing to write to: what they answer is all that they do
 pub record FirstCondition : Type 0 where
   pub search : (f : Floor) (m : List ℕ) (q : Question) (r : Rooms) (a : Answer) (r′ : Rooms) → Searched f m q r a r′
@@ -54,6 +70,10 @@ pub record FirstCondition : Type 0 where
       → Refuses (IsLowestLine (writeLines f m (length room))) (λ n p. w ≡ Written.Refused n p) (room′ ≡ room)
   pub reader : (text room : List ℕ) (r : Read) (room′ : List ℕ) → IsRead text room r room′
       → Refuses (IsFirstFault text (length room)) (λ n p. r ≡ Read.Refused n p) (room′ ≡ room)
+  pub program-map : (text room : List ℕ) (r : Read) (room′ : List ℕ) → IsUsed text room r room′
+      → Refuses (IsUnusable text (length room)) (λ n p. r ≡ Read.Refused n p) (room′ ≡ room)
+  pub program-question : (f : Floor) (m question : List ℕ) (r : Rooms) (a : Answer) (r′ : Rooms) → Asked f m question r a r′
+      → Refuses (IsRefusable f m question r) (λ n p. a ≡ Answer.Refused n p) (r′ ≡ r)
   -- the screens that the entries share: 1 to 3, 1 to 4, 1 to 8
   pub map-screen : (f : Floor) (m : List ℕ) (n p : ℕ) → (screen (mapLines f m) ≡ Refused n p) ↔ IsLowestLine (mapLines f m) n p
   pub floor-screen : (f : Floor) (m : List ℕ) (n p : ℕ) → (screen (floorLines f m) ≡ Refused n p) ↔ IsLowestLine (floorLines f m) n p

@@ -1,11 +1,8 @@
 -- The invariant: whoever answers the records that are left has answered them all. The measure is how many are left.
-use mathlib.Core.Path.{_≡_, refl, sym, ap, _∙_}
-use Prim.Native.Nat.{_+_, _*_, _≤_}
+use mathlib.Core.Path.{_≡_, refl, _∙_}
 use native.Mathlib.Omega.{arith}
-use borrow.Author.Needs.{needs}
 use lib.ListN.{length}
 use Rattle.search.specs.Search.{rooms}
-use Rattle.desk.specs.Record.{recordSize}
 use Rattle.desk.specs.Desk.{wholeRecords}
 use Rattle.desk.proofs.Buffers.{Answering, answering-none, answering-next, next-within, answering-all}
 use Rattle.desk.proofs.records.answer_records.Statement.{statement}
