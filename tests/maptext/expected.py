@@ -159,4 +159,5 @@ def main():
     (folder / "stdout").write_text("".join(said(room, text) for room, text in texts))
 
 
-main()
+if __name__ == "__main__":
+    main()

@@ -421,4 +421,5 @@ def main():
     print("%d cases" % len(cases))
 
 
-main()
+if __name__ == "__main__":
+    main()
