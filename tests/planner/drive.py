@@ -1,0 +1,174 @@
+#!/usr/bin/env python3
+"""Starts the program in folders of its own and compares what it writes with the reference in expected.py.
+
+    drive.py COMMAND WORD ..      the words that start the program, on this machine
+"""
+import os
+import random
+import selectors
+import subprocess
+import sys
+import tempfile
+import time
+from pathlib import Path
+
+from expected import MARK, RECORD, answer, maptext, output, question
+
+COMMAND = sys.argv[1:]
+LONG = 60  # seconds that no run takes
+
+
+def run(folder, records):
+    return subprocess.run(COMMAND, cwd=folder, input=records, stdout=subprocess.PIPE, timeout=LONG, check=False).stdout
+
+
+def compare(name, got, due):
+    if got != due:
+        sys.exit(f"planner: {name}: wrote {got[:64]!r}.., due is {due[:64]!r}..")
+
+
+def in_folder(text, act):
+    with tempfile.TemporaryDirectory() as folder:
+        if text is not None:
+            Path(folder, "floor.map").write_bytes(text)
+        return act(folder)
+
+
+def try_text(text, records=b""):
+    in_folder(text, lambda folder: compare(text[:80], run(folder, records), output(text, records)))
+
+
+# ---- maps that cannot be used ----------------------------------------------------------------------------------------------
+
+
+def rows(width, height, mark="."):
+    return [mark * width] * height
+
+
+def spoiled(text, place, byte):
+    return text[:place] + byte + text[place + 1 :]
+
+
+def refused_texts():
+    good = maptext.text_of([".@.", "..."])
+    full = maptext.text_of(rows(64, 64))
+    assert len(full) == 4195
+    # too long before anything of it is read, and just not too long
+    yield from (full + b"\n", b"x" * 4196, good * 200, b"x" * 4195, full[:-1], spoiled(full, 4194, b"."))
+    # each line of the header, and texts that end in it
+    yield from (good[:length] for length in range(len(good)))
+    yield from (b"type octal\n" + good[12:], b" " + good, good.replace(b"\n", b"\r\n"))
+    for word, others in ((b"height 2", (b"height 0", b"height 02", b"height 257", b"width 2", b"height  2")), (b"width 3", (b"width 0", b"width 300", b"width +3"))):
+        yield from (good.replace(word, other) for other in others)
+    yield from (good.replace(b"map", b"Map"), good.replace(b"height 2", b"height " + b"1" * 300))
+    # 29 comes before the rows, and a side above 64 after them
+    yield from (maptext.text_of(["."], "65", "64"), maptext.text_of(["."], "256", "256"), maptext.text_of(["."], "17", "241"))
+    yield from (maptext.text_of(rows(65, 1)), maptext.text_of(rows(1, 65)), maptext.text_of(rows(65, 63)), maptext.text_of(rows(256, 16, "@")))
+    yield from (maptext.text_of(rows(65, 1)) + b".", spoiled(maptext.text_of(rows(65, 2)), 100, b"S"))
+    # faults in the rows, and a further byte
+    yield from (spoiled(good, place, byte) for place in range(33, 41) for byte in (b"W", b"\n", b".", b"0", b"\r"))
+    yield from (good + b"\n", good + b".", good[:-1])
+
+
+# ---- maps that can ------------------------------------------------------------------------------------------------------------
+
+
+def asked_of(generator, width, height, count):
+    size = width * height
+    for _ in range(count):
+        start, goal = (generator.randrange(size + (generator.random() < 0.05)) for _ in range(2))
+        limit = generator.choice([0, 1, generator.randint(0, size), size, size + 1, MARK])
+        zeros = b"\0\0\0" if generator.random() < 0.95 else bytes(generator.randrange(256) for _ in range(3))
+        yield question(start, goal, limit, generator.choice([4, 8, 8, generator.randrange(256)]), zeros)
+
+
+def floors():
+    generator = random.Random(64)
+    yield maptext.text_of([".@."]), [question(0, 2, 1, 8), question(0, 2, 0, 8), question(0, 2, MARK, 4)]
+    yield maptext.text_of([".@", "@."]), [question(0, 3, 4, 8)]
+    yield maptext.text_of(["."]), [question(0, 0, limit, 8) for limit in (0, 1, MARK)]
+    for width, height, count in ((1, 1, 20), (7, 5, 300), (64, 1, 100), (1, 64, 100), (64, 64, 40), (63, 64, 20)):
+        picture = ["".join(generator.choice("..G123456789@TO") for _ in range(width)) for _ in range(height)]
+        yield maptext.text_of(picture), list(asked_of(generator, width, height, count))
+
+
+# ---- input in pieces ------------------------------------------------------------------------------------------------------------
+
+
+def dribble(folder, text, records, size):
+    """Sends `size` bytes at a time, the next only when every whole record that was sent is answered."""
+    program = subprocess.Popen(COMMAND, cwd=folder, stdin=subprocess.PIPE, stdout=subprocess.PIPE)
+    got = b""
+    due = output(text, records)
+    with selectors.DefaultSelector() as waiting:
+        waiting.register(program.stdout, selectors.EVENT_READ)
+        for at in range(0, len(records), size):
+            program.stdin.write(records[at : at + size])
+            program.stdin.flush()
+            sent = min(at + size, len(records))
+            while len(got) < sent - sent % RECORD:
+                if not waiting.select(LONG):
+                    sys.exit(f"planner: pieces of {size}: no answer to byte {sent} while the input waits")
+                got += os.read(program.stdout.fileno(), 65536)
+            if waiting.select(0.001):
+                sys.exit(f"planner: pieces of {size}: more than was asked after byte {sent}")
+    program.stdin.close()
+    got += program.stdout.read()
+    program.wait(LONG)
+    compare(f"pieces of {size}", got, due)
+
+
+def stops_at_closed_output(folder, told):
+    """The reader of the answers goes away while questions go on coming: the program ends by itself, told by a signal or by the write that fails."""
+    program = subprocess.Popen(
+        COMMAND, cwd=folder, stdin=subprocess.PIPE, stdout=subprocess.PIPE, stderr=subprocess.DEVNULL, restore_signals=told
+    )
+    program.stdout.close()
+    end = time.monotonic() + LONG
+    try:
+        while program.poll() is None and time.monotonic() < end:
+            program.stdin.write(question(0, 2, 5, 8) * 64)
+            program.stdin.flush()
+    except BrokenPipeError:
+        pass
+    try:
+        program.wait(LONG)
+    except subprocess.TimeoutExpired:
+        program.kill()
+        sys.exit("planner: it runs on after its output was closed")
+
+
+def main():
+    records = question(0, 2, 5, 8) * 3
+    texts = list(refused_texts())
+    for text in texts:
+        try_text(text, records)
+    missing = b"map missing\n"
+    in_folder(None, lambda folder: compare("no file", run(folder, records), missing))
+    in_folder(None, lambda folder: (Path(folder, "floor.map").mkdir(), compare("a folder", run(folder, records), missing)))
+    numbers = sorted({int(output(text, b"").split()[2]) for text in texts if output(text, b"")})
+    print(f"planner: {len(texts)} texts, refused as {', '.join(map(str, numbers))}; map missing")
+
+    kinds = set()
+    count = 0
+    for text, asked in floors():
+        piece = asked[0][: len(asked) % RECORD]
+        try_text(text, b"".join(asked) + piece)
+        floor = maptext.read(text, 4096)
+        kinds |= {tuple(answer(floor, record)[:2]) for record in asked}
+        count += len(asked)
+    print(f"planner: {count} questions, kinds and refusals {' '.join('%d/%d' % kind for kind in sorted(kinds))}")
+
+    text = maptext.text_of([".@.", "..."])
+    asked = [question(0, 2, 5, 8), question(0, 2, 4, 8), question(1, 2, 5, 8), question(0, 2, 5, 8, b"\0\0\1"), question(3, 5, MARK, 4)]
+    records = b"".join(asked) + asked[0][:9]
+    for size in (1, 3, 7, 16, 17):
+        in_folder(text, lambda folder, size=size: dribble(folder, text, records, size))
+    many = b"".join(asked) * 5000
+    in_folder(text, lambda folder: compare("much input", run(folder, many + records), b"".join([output(text, b"".join(asked))] * 5000) + output(text, records)))
+    for told in (True, False):
+        in_folder(text, lambda folder, told=told: stops_at_closed_output(folder, told))
+    print("planner: pieces of 1, 3, 7, 16 and 17 bytes, 25005 questions at once, a closed output")
+
+
+main()
