@@ -6,16 +6,18 @@ use Prim.Native.Nat.{ℕ, zero, suc, _+_, _*_, _/_, _%_, _<_}
 use native.Mathlib.Nat.{mod-eq-of-lt}
 use native.Mathlib.Omega.{arith}
 use lib.Arith.{mod-mul}
-use lib.ListN.{take, drop}
+use lib.ListN.{length, take, drop}
 use Rattle.floor.specs.declared.Floor.{Floor}
 use Rattle.maptext.specs.declared.Read.{Read}
 use Rattle.search.specs.declared.Answer.{Answer}
 use Rattle.search.specs.declared.Answer.the-variants.{Found}
+use Rattle.search.specs.declared.AnswerNumbers.{AnswerNumbers}
 use Rattle.search.specs.Search.{Rooms, question}
 use Rattle.search.proofs.Promise.{one-search}
 use Rattle.desk.specs.Use.{IsUsed}
-use Rattle.desk.specs.Record.{recordSize, little, numberAt, questionIn, waysIn, endsInZeros, recordOf}
+use Rattle.desk.specs.Record.{recordSize, little, numberAt, questionIn, waysIn, endsInZeros, recordFor, recordOf}
 use Rattle.desk.specs.Desk.{Asked, no-zeros, searched, Answered, wholeRecords, IsAnswered}
+use Rattle.desk.proofs.Fitting.{InRecord}
 
 -- a second result and room that meet the promise of `use_map` are equal
 pub one-use : (text room : List ℕ) {r s : Read} {room₁ room₂ : List ℕ} → IsUsed text room r room₁ → IsUsed text room s room₂ → (r ≡ s) × (room₁ ≡ room₂)
@@ -61,3 +63,12 @@ number-back n h =
     let three : n % 16777216 ≡ n / 65536 % 256 * 65536 + n % 65536 = mod-mul n {m = 256} {c = 65536} (omega arith) (omega arith) in
     let four : n % 4294967296 ≡ n / 16777216 % 256 * 16777216 + n % 16777216 = mod-mul n {m = 256} {c = 16777216} (omega arith) (omega arith) in
     omega (arith, two, three, four, mod-eq-of-lt h)
+
+-- and so are the numbers of an answer from its record
+pub answer-back : (n : AnswerNumbers) → InRecord n
+    → (numberAt (recordFor n) 4 ≡ n .settled) × (numberAt (recordFor n) 8 ≡ n .number) × (numberAt (recordFor n) 12 ≡ n .length)
+answer-back n fits = (
+  number-back (n .settled) (omega (arith, fits .settled-fits)),
+  number-back (n .number) (omega (arith, fits .number-fits)),
+  number-back (n .length) (omega (arith, fits .length-fits)),
+)

@@ -70,7 +70,7 @@ fn ask(
 }
 
 // 01: kind, refusal number, two zeros, settled, number returned, route length, numbers little-endian.
-fn record_with(kind: u8, refusal: u8, settled: u64, number: u64, length: u64) -> [u8; 16]
+fn record_with(kind: u8, refusal: u8, settled: u64, number: u64, length: u64) -> [u8; RECORD_SIZE]
     ensures { λ r. ⌜ r ≡ recordWith kind refusal settled number length ⌝ }
 {
     [
@@ -93,7 +93,7 @@ fn record_with(kind: u8, refusal: u8, settled: u64, number: u64, length: u64) ->
     ]
 }
 
-fn record_of(answer: Answer) -> [u8; 16]
+fn record_of(answer: Answer) -> [u8; RECORD_SIZE]
     requires { ⌜ SmallRefusal answer ⌝ }
     ensures { λ r. ⌜ r ≡ recordOf answer ⌝ }
 {
