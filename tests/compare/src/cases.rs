@@ -1,0 +1,145 @@
+//! The floors to try of 01, with the answers that 01 gives: the plain planner is held against these before it is compared with anything.
+
+use crate::calls::{Call, What};
+use crate::claims::{check_route, check_table, RouteVerdict, TableVerdict};
+use crate::floor::{Refusal, MARK};
+use crate::search::{search, Answer, Rooms};
+
+struct Case {
+    name: char,
+    map: &'static str,
+    ways: u32,
+    start: u32,
+    goal: u32,
+    limit: u32,
+    answer: Answer,
+    route: &'static [u8],
+}
+
+fn found(settled: u64, cost: u64, length: u64) -> Answer {
+    Answer::Found {
+        settled,
+        cost,
+        length,
+    }
+}
+
+#[rustfmt::skip]
+fn cases() -> Vec<Case> {
+    let none = |settled| Answer::None { settled };
+    let stopped = |settled, floor| Answer::Stopped { settled, floor };
+    let open = ".../.../...";
+    vec![
+        Case { name: 'a', map: ".@./...", ways: 8, start: 0, goal: 2, limit: 5, answer: found(5, 280, 4), route: &[4, 2, 2, 0] },
+        Case { name: 'b', map: ".@./...", ways: 8, start: 0, goal: 2, limit: 4, answer: stopped(4, 280), route: &[] },
+        Case { name: 'c', map: open, ways: 8, start: 0, goal: 8, limit: 9, answer: found(9, 198, 2), route: &[3, 3] },
+        Case { name: 'd', map: open, ways: 4, start: 0, goal: 8, limit: 9, answer: found(9, 280, 4), route: &[4, 4, 2, 2] },
+        Case { name: 'e', map: "../.9", ways: 8, start: 0, goal: 3, limit: 4, answer: found(4, 700, 2), route: &[4, 2] },
+        Case { name: 'f', map: ".9./...", ways: 8, start: 0, goal: 2, limit: 6, answer: found(5, 198, 2), route: &[3, 1] },
+        Case { name: 'g', map: ".@.", ways: 8, start: 0, goal: 2, limit: 1, answer: none(1), route: &[] },
+        Case { name: 'h', map: ".@.", ways: 8, start: 0, goal: 2, limit: 0, answer: stopped(0, 0), route: &[] },
+        Case { name: 'i', map: ".", ways: 8, start: 0, goal: 0, limit: 1, answer: found(1, 0, 0), route: &[] },
+        Case { name: 'j', map: ".9", ways: 8, start: 0, goal: 1, limit: 2, answer: found(2, 630, 1), route: &[2] },
+        Case { name: 'k', map: ".9", ways: 8, start: 1, goal: 0, limit: 2, answer: found(2, 70, 1), route: &[6] },
+        Case { name: 'l', map: ".@/@.", ways: 8, start: 0, goal: 3, limit: 4, answer: none(1), route: &[] },
+    ]
+}
+
+/// A call on a map that is drawn as 01 draws it.
+fn drawn(what: What, picture: &str, ways: u32, start: u32, goal: u32, limit: u32) -> Call {
+    let mut call = Call::of(what);
+    let rows: Vec<&str> = picture.split('/').collect();
+    call.width = rows[0].len() as u32;
+    call.height = rows.len() as u32;
+    call.ways = ways;
+    call.start = start;
+    call.goal = goal;
+    call.limit = limit;
+    for row in rows {
+        for mark in row.bytes() {
+            call.map.push(match mark {
+                b'@' => 0,
+                b'.' => 1,
+                digit => digit - b'0',
+            });
+        }
+    }
+    call.costs_room = call.map.len();
+    call.work_room = 2 * call.map.len();
+    call.byte_room = call.map.len();
+    call
+}
+
+/// Holds the plain planner against 01's answers, and gives the calls, to be compared too.
+pub fn tried() -> Vec<Call> {
+    let mut calls = Vec::new();
+    for case in cases() {
+        let call = drawn(
+            What::Search,
+            case.map,
+            case.ways,
+            case.start,
+            case.goal,
+            case.limit,
+        );
+        let (answer, rooms) = searched(&call);
+        assert_eq!(answer, case.answer, "case {}", case.name);
+        assert_eq!(
+            &rooms.route[..case.route.len()],
+            case.route,
+            "case {}",
+            case.name
+        );
+        if case.name == 'a' {
+            assert_eq!(rooms.costs, [0, MARK, 280, 70, 140, 210]);
+        }
+        calls.push(call);
+    }
+    calls.extend(refused_or_taken());
+    calls.extend(claimed());
+    calls
+}
+
+fn searched(call: &Call) -> (Answer, Rooms) {
+    let mut rooms = Rooms {
+        costs: vec![0; call.costs_room],
+        work: vec![0; call.work_room],
+        route: vec![0; call.byte_room],
+    };
+    let (start, goal, limit) = (call.start as u64, call.goal as u64, call.limit as u64);
+    let answer = search(call.floor(), &call.map, start, goal, limit, &mut rooms);
+    (answer, rooms)
+}
+
+/// "Side 256 taken, 257 refused 1; byte 9 taken, 10 refused 3; start and goal both blocked, 7."
+fn refused_or_taken() -> Vec<Call> {
+    let row = |length: usize| drawn(What::Search, &".".repeat(length), 8, 0, 0, 1);
+    let mut ten = drawn(What::Search, "9", 8, 0, 0, 1);
+    ten.map[0] = 10;
+    let blocked = drawn(What::Search, "@", 8, 0, 0, 1);
+    let refused = |number| Answer::Refused(Refusal { number, place: 0 });
+    assert_eq!(searched(&row(256)).0, found(1, 0, 0));
+    assert_eq!(searched(&row(257)).0, refused(1));
+    assert_eq!(searched(&ten).0, refused(3));
+    assert_eq!(searched(&blocked).0, refused(7));
+    vec![row(256), row(257), ten, blocked]
+}
+
+/// "In l the claimed route 3 is fault 44 at 0; a's table with 210 made 209 breaks first at cell 2."
+fn claimed() -> Vec<Call> {
+    let mut route = drawn(What::RouteClaim, ".@/@.", 8, 0, 3, 99);
+    route.route = vec![3];
+    let verdict = check_route(route.floor(), &route.map, 0, 3, 99, &route.route);
+    assert_eq!(
+        verdict,
+        RouteVerdict::Fails(Refusal {
+            number: 44,
+            place: 0
+        })
+    );
+    let mut table = drawn(What::TableClaim, ".@./...", 8, 0, 0, 0);
+    table.table = vec![0, MARK, 280, 70, 140, 209];
+    let verdict = check_table(table.floor(), &table.map, 0, &table.table);
+    assert_eq!(verdict, TableVerdict::Breaks(2));
+    vec![route, table]
+}

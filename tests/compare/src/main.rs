@@ -1,0 +1,229 @@
+//! Compares the proved programs with an independent planner, written from 01 alone, on random inputs.
+//!
+//!     compare SEED COUNT FOLDER CALLS PLANNER [START..]
+//!
+//! COUNT rounds are run, each with its own random numbers. FOLDER is for `floor.map`; CALLS and PLANNER are the programs, and START the words
+//! before them that start a program on this machine. A difference is printed with its input, and the status is 1.
+//!
+//! `floor`, `search`, `claims`, `maptext` and `program` are the independent planner: to be read beside 01, sentence by sentence.
+
+mod calls;
+mod cases;
+mod claims;
+mod floor;
+mod floors;
+mod generate;
+mod maptext;
+mod pipes;
+mod planner;
+mod program;
+mod random;
+mod report;
+mod search;
+mod texts;
+
+use std::collections::BTreeMap;
+use std::fmt;
+use std::path::PathBuf;
+use std::process::ExitCode;
+
+use calls::{Call, What};
+use floors::{any_floor, Drawn};
+use generate::Scene;
+use pipes::Calls;
+use planner::Planner;
+use random::Random;
+
+/// Every so many rounds the floor has sides up to 256.
+const LARGE: u64 = 50;
+
+/// Every so many rounds the planner is run.
+const PLANNER: u64 = 4;
+
+/// What has been compared.
+#[derive(Default)]
+pub struct Counts {
+    searches: u64,
+    route_claims: u64,
+    table_claims: u64,
+    map_texts: u64,
+    records: u64,
+    /// how often each word or number was the answer
+    met: BTreeMap<String, u64>,
+}
+
+impl Counts {
+    fn meet(&mut self, answer: String) {
+        *self.met.entry(answer).or_insert(0) += 1;
+    }
+}
+
+impl fmt::Display for Counts {
+    fn fmt(&self, out: &mut fmt::Formatter) -> fmt::Result {
+        write!(
+            out,
+            "{} searches, {} route claims, {} table claims, {} map texts, {} question records",
+            self.searches, self.route_claims, self.table_claims, self.map_texts, self.records
+        )
+    }
+}
+
+/// A difference has been found and printed.
+pub struct Differs;
+
+struct Comparison {
+    calls: Calls,
+    planner: Planner,
+    counts: Counts,
+}
+
+impl Comparison {
+    fn compare(&mut self, call: &Call) -> Result<(), Differs> {
+        match call.what {
+            What::Search => self.counts.searches += 1,
+            What::RouteClaim => self.counts.route_claims += 1,
+            What::TableClaim => self.counts.table_claims += 1,
+            What::ReadMap | What::WriteMap => self.counts.map_texts += 1,
+        }
+        let expected = call.expected();
+        self.counts.meet(report::outcome(call, &expected));
+        if self.calls.ask(call) == expected {
+            return Ok(());
+        }
+        let calls = &mut self.calls;
+        let small = report::shrunk(call, &mut |other| calls.ask(other) != other.expected());
+        let got = calls.ask(&small);
+        report::print_difference(&small, &small.expected(), &got);
+        Err(Differs)
+    }
+
+    fn round(&mut self, random: &mut Random, round: u64) -> Result<(), Differs> {
+        if round % LARGE == LARGE - 1 {
+            return self.large_round(random);
+        }
+        let drawn = generate::floor_of_round(random, 64);
+        for _ in 0..3 {
+            let scene = Scene::of(random, &drawn);
+            for limit in scene.limits() {
+                self.compare(&generate::good_search(random, &scene, limit))?;
+            }
+            for _ in 0..3 {
+                self.compare(&generate::wild_search(random, &scene))?;
+            }
+            for _ in 0..4 {
+                self.compare(&generate::route_claim(random, &scene))?;
+                self.compare_table(random, &scene)?;
+            }
+        }
+        self.compare_texts(random, &drawn)?;
+        if round % PLANNER == 0 {
+            self.planner.compare(random, &mut self.counts)?;
+        }
+        Ok(())
+    }
+
+    /// On a floor of up to 256 × 256 cells the plain planner takes its time: fewer questions.
+    fn large_round(&mut self, random: &mut Random) -> Result<(), Differs> {
+        let drawn = any_floor(random, 256);
+        let scene = Scene::of(random, &drawn);
+        for limit in [
+            random.one_of(&scene.limits()),
+            random.one_of(&scene.limits()),
+        ] {
+            self.compare(&generate::good_search(random, &scene, limit))?;
+        }
+        let limit = random.below(scene.n + 1) as u32;
+        self.compare(&generate::good_search(random, &scene, limit))?;
+        self.compare(&generate::wild_search(random, &scene))?;
+        for _ in 0..2 {
+            self.compare(&generate::route_claim(random, &scene))?;
+            self.compare_table(random, &scene)?;
+        }
+        self.compare_texts(random, &drawn)
+    }
+
+    fn compare_table(&mut self, random: &mut Random, scene: &Scene) -> Result<(), Differs> {
+        let claim = generate::table_claim(random, scene);
+        self.compare(&claim)?;
+        if random.once_in(3) {
+            let times = random.between(1, 6) as usize;
+            return self.compare(&generate::mended(claim, times));
+        }
+        Ok(())
+    }
+
+    fn compare_texts(&mut self, random: &mut Random, drawn: &Drawn) -> Result<(), Differs> {
+        let mut texts = vec![texts::good_text(random, drawn)];
+        for _ in 0..4 {
+            texts.push(texts::torn_text(random, drawn));
+        }
+        if random.once_in(4) {
+            texts.push(texts::edge_text(random));
+        }
+        for text in texts {
+            let mut call = Call::of(What::ReadMap);
+            let cells = drawn.map.len();
+            call.byte_room = random.one_of(&[cells, cells, cells + 2, cells - 1, 4096, 65536]);
+            call.text = text;
+            self.compare(&call)?;
+        }
+        self.compare(&generate::writing(random, drawn))
+    }
+
+    fn all(&mut self, seed: u64, count: u64) -> Result<(), Differs> {
+        for call in cases::tried() {
+            self.compare(&call)?;
+        }
+        for round in 0..count {
+            let mut random = Random::of_round(seed, round);
+            self.round(&mut random, round).map_err(|differs| {
+                println!("seed {}, round {}", seed, round);
+                differs
+            })?;
+        }
+        let rest = self.calls.finish();
+        if !rest.is_empty() {
+            println!("{} bytes were written beyond the replies", rest.len());
+            return Err(Differs);
+        }
+        Ok(())
+    }
+}
+
+fn main() -> ExitCode {
+    let words: Vec<String> = std::env::args().skip(1).collect();
+    if words.len() < 5 {
+        eprintln!("compare SEED COUNT FOLDER CALLS PLANNER [START..]");
+        return ExitCode::FAILURE;
+    }
+    let seed = words[0].parse().expect("SEED is a number");
+    let count = words[1].parse().expect("COUNT is a number");
+    let start = &words[5..];
+    let mut comparison = Comparison {
+        calls: Calls::new(start, &words[3]),
+        planner: Planner {
+            start: start.to_vec(),
+            program: words[4].clone(),
+            folder: PathBuf::from(&words[2]),
+        },
+        counts: Counts::default(),
+    };
+    let compared = comparison.all(seed, count);
+    let met: Vec<String> = comparison
+        .counts
+        .met
+        .iter()
+        .map(|(answer, times)| format!("{} {}", times, answer))
+        .collect();
+    println!("answers of calls: {}", met.join(", "));
+    match compared {
+        Ok(()) => {
+            println!("compared: {}; no difference", comparison.counts);
+            ExitCode::SUCCESS
+        }
+        Err(Differs) => {
+            println!("compared: {}; the last one differs", comparison.counts);
+            ExitCode::FAILURE
+        }
+    }
+}

@@ -1,0 +1,190 @@
+//! The program `planner`, beside the rules of 01's "The program".
+
+use std::fs;
+use std::path::PathBuf;
+
+use crate::calls::{Call, What};
+use crate::floors::{any_floor, Drawn};
+use crate::generate::{question, Scene};
+use crate::maptext::text_of;
+use crate::pipes::{run_planner, Sending, RECORD};
+use crate::program::output;
+use crate::random::Random;
+use crate::report::{print_map, quoted, shrunk};
+use crate::texts::{edge_text, good_text, torn_text};
+use crate::{Counts, Differs};
+
+pub struct Planner {
+    pub start: Vec<String>,
+    pub program: String,
+    pub folder: PathBuf,
+}
+
+/// What stands at the name `floor.map`.
+#[derive(Clone, Debug)]
+enum MapFile {
+    Text(Vec<u8>),
+    Nothing,
+    /// it opens, and cannot be read
+    Folder,
+}
+
+impl MapFile {
+    fn text(&self) -> Option<&[u8]> {
+        match self {
+            MapFile::Text(text) => Some(text),
+            MapFile::Nothing | MapFile::Folder => None,
+        }
+    }
+}
+
+impl Planner {
+    /// One run of the program, with a map file and questions of a random kind.
+    pub fn compare(&self, random: &mut Random, counts: &mut Counts) -> Result<(), Differs> {
+        let side = random.one_of(&[3, 6, 10, 20, 64]);
+        let drawn = any_floor(random, side);
+        let file = some_file(random, &drawn);
+        let input = some_input(random, &drawn);
+        let sending = some_sending(random);
+        let expected = output(file.text(), &input);
+        let got = self.run(&file, &input, &sending);
+        counts.map_texts += 1;
+        if got == expected {
+            counts.records += (expected.len() / RECORD) as u64;
+            return Ok(());
+        }
+        let place = first_difference(&expected, &got);
+        counts.records += (place / RECORD) as u64;
+        self.report(&drawn, &file, &input, &sending, &expected, &got);
+        Err(Differs)
+    }
+
+    fn run(&self, file: &MapFile, input: &[u8], sending: &Sending) -> Vec<u8> {
+        let _ = fs::remove_dir_all(&self.folder);
+        fs::create_dir_all(&self.folder).expect("the folder can be made");
+        let map = self.folder.join("floor.map");
+        match file {
+            MapFile::Text(text) => fs::write(map, text).expect("floor.map can be written"),
+            MapFile::Nothing => (),
+            MapFile::Folder => fs::create_dir(map).expect("floor.map can be made a folder"),
+        }
+        run_planner(&self.start, &self.program, &self.folder, input, sending)
+    }
+
+    /// Prints the first record that differs, alone and on a smaller floor if it differs there too, else all that was sent.
+    fn report(
+        &self,
+        drawn: &Drawn,
+        file: &MapFile,
+        input: &[u8],
+        sending: &Sending,
+        expected: &[u8],
+        got: &[u8],
+    ) {
+        let index = first_difference(expected, got) / RECORD;
+        if let Some(record) = input.chunks_exact(RECORD).nth(index) {
+            let mut call = asked(drawn, record);
+            if self.differs(&call, record) {
+                call = shrunk(&call, &mut |other| self.differs(other, record));
+                let (by_01, program) = self.both(&call, record);
+                println!("planner, one question");
+                print_map(call.width, &call.map);
+                println!("question {}", hex(&question_of(&call, record)));
+                println!("by 01:       {}", hex(&by_01));
+                println!("the program: {}", hex(&program));
+                return;
+            }
+        }
+        println!("planner, {:?}", sending);
+        match file.text() {
+            Some(text) => println!("floor.map of {} bytes:\n{}", text.len(), quoted(text)),
+            None => println!("floor.map: {:?}", file),
+        }
+        println!("input of {} bytes: {}", input.len(), hex(input));
+        println!("by 01:       {}\n{}", hex(expected), quoted(expected));
+        println!("the program: {}\n{}", hex(got), quoted(got));
+    }
+
+    fn differs(&self, call: &Call, record: &[u8]) -> bool {
+        let (by_01, program) = self.both(call, record);
+        by_01 != program
+    }
+
+    fn both(&self, call: &Call, record: &[u8]) -> (Vec<u8>, Vec<u8>) {
+        let text = text_of(call.width as u64, call.height as u64, &call.map);
+        let input = question_of(call, record);
+        let by_01 = output(Some(&text), &input);
+        let sending = Sending::Pieces(vec![RECORD]);
+        (by_01, self.run(&MapFile::Text(text), &input, &sending))
+    }
+}
+
+fn first_difference(a: &[u8], b: &[u8]) -> usize {
+    a.iter().zip(b).take_while(|(x, y)| x == y).count()
+}
+
+/// A question as a search, so that it can be made smaller like one.
+fn asked(drawn: &Drawn, record: &[u8]) -> Call {
+    let number = |at: usize| {
+        u32::from_le_bytes([record[at], record[at + 1], record[at + 2], record[at + 3]])
+    };
+    let mut call = Call::of(What::Search);
+    call.width = drawn.width;
+    call.height = drawn.height;
+    call.map = drawn.map.clone();
+    call.start = number(0);
+    call.goal = number(4);
+    call.limit = number(8);
+    call
+}
+
+/// The record of a smaller question; its ways and spare bytes are those of the first one.
+fn question_of(call: &Call, record: &[u8]) -> Vec<u8> {
+    let mut smaller = crate::calls::numbers(&[call.start, call.goal, call.limit]);
+    smaller.extend(&record[12..]);
+    smaller
+}
+
+fn hex(bytes: &[u8]) -> String {
+    let words: Vec<String> = bytes.iter().map(|byte| format!("{:02x}", byte)).collect();
+    words.join(" ")
+}
+
+fn some_file(random: &mut Random, drawn: &Drawn) -> MapFile {
+    match random.below(16) {
+        0 => MapFile::Nothing,
+        1 if random.once_in(4) => MapFile::Folder,
+        2 | 3 => MapFile::Text(torn_text(random, drawn)),
+        4 | 5 => MapFile::Text(edge_text(random)),
+        _ => MapFile::Text(good_text(random, drawn)),
+    }
+}
+
+/// Question records, and now and then a broken last one.
+fn some_input(random: &mut Random, drawn: &Drawn) -> Vec<u8> {
+    let mut input = Vec::new();
+    let scenes = if drawn.map.len() > 1000 { 2 } else { 8 };
+    for _ in 0..random.below(scenes + 1) {
+        let scene = Scene::of(random, drawn);
+        for _ in 0..random.between(1, 12) {
+            input.extend(question(random, &scene));
+        }
+    }
+    if random.once_in(3) {
+        let broken = random.between(1, RECORD as u64 - 1) as usize;
+        input.extend(&[1, 0, 0, 0, 1, 0, 0, 0, 1, 0, 0, 0, 8, 0, 0][..broken]);
+    }
+    input
+}
+
+fn some_sending(random: &mut Random) -> Sending {
+    random.one_of(&[
+        Sending::OneByOne,
+        Sending::Pieces(vec![1]),
+        Sending::Pieces(vec![7, 16, 40]),
+        Sending::Pieces(vec![15, 17]),
+        Sending::Pieces(vec![16]),
+        Sending::Pieces(vec![4096]),
+        Sending::Pieces(vec![100, 3, 33]),
+    ])
+}

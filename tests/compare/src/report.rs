@@ -1,0 +1,269 @@
+//! What a difference looks like, and how its input is made smaller before it is printed.
+
+use crate::calls::{Call, What};
+use crate::floor::MARK;
+
+/// No more than so many smaller inputs are tried.
+const TRIES: usize = 3000;
+
+/// A smaller call that still shows a difference. `differs` asks both sides.
+pub fn shrunk(call: &Call, differs: &mut dyn FnMut(&Call) -> bool) -> Call {
+    let mut best = call.clone();
+    let mut tries = 0;
+    'again: loop {
+        for smaller in smaller_calls(&best) {
+            tries += 1;
+            if tries > TRIES {
+                return best;
+            }
+            if differs(&smaller) {
+                best = smaller;
+                continue 'again;
+            }
+        }
+        return best;
+    }
+}
+
+fn smaller_calls(call: &Call) -> Vec<Call> {
+    let mut calls = Vec::new();
+    if call.what == What::ReadMap {
+        return shorter_texts(call);
+    }
+    if call.map.len() as u64 == call.floor().cells() {
+        for y in 0..call.height {
+            calls.extend(without(call, |_, row| row == y, 0, 1));
+        }
+        for x in 0..call.width {
+            calls.extend(without(call, |column, _| column == x, 1, 0));
+        }
+    }
+    for place in 0..call.route.len() {
+        let mut shorter = call.clone();
+        shorter.route.remove(place);
+        calls.push(shorter);
+    }
+    if call.what == What::Search {
+        for limit in [call.limit / 2, call.limit.saturating_sub(1)] {
+            if limit < call.limit {
+                let mut earlier = call.clone();
+                earlier.limit = limit;
+                calls.push(earlier);
+            }
+        }
+    }
+    if call.map.len() <= 36 {
+        calls.extend(plainer_maps(call));
+    }
+    calls
+}
+
+/// The call without some row or column, unless the start or the goal lies in it.
+fn without(call: &Call, gone: impl Fn(u32, u32) -> bool, columns: u32, rows: u32) -> Option<Call> {
+    let is_gone = |cell: u32| gone(cell % call.width, cell / call.width);
+    let cells = call.map.len() as u32;
+    let mut smaller = call.clone();
+    smaller.width -= columns;
+    smaller.height -= rows;
+    if smaller.width == 0 || smaller.height == 0 {
+        return None;
+    }
+    for end in [&mut smaller.start, &mut smaller.goal] {
+        if *end < cells {
+            if is_gone(*end) {
+                return None;
+            }
+            *end -= (0..*end).filter(|cell| is_gone(*cell)).count() as u32;
+        }
+    }
+    let kept = |cell: &usize| *cell as u32 >= cells || !is_gone(*cell as u32);
+    smaller.map = (0..call.map.len())
+        .filter(kept)
+        .map(|cell| call.map[cell])
+        .collect();
+    smaller.table = (0..call.table.len())
+        .filter(kept)
+        .map(|cell| call.table[cell])
+        .collect();
+    let fewer = call.map.len() - smaller.map.len();
+    smaller.costs_room = call.costs_room.saturating_sub(fewer);
+    smaller.work_room = call.work_room.saturating_sub(2 * fewer);
+    smaller.byte_room = call.byte_room.saturating_sub(fewer);
+    Some(smaller)
+}
+
+/// The call with one cell made open, of weight 1.
+fn plainer_maps(call: &Call) -> Vec<Call> {
+    let mut calls = Vec::new();
+    for cell in 0..call.map.len() {
+        if call.map[cell] != 1 {
+            let mut plainer = call.clone();
+            plainer.map[cell] = 1;
+            calls.push(plainer);
+        }
+    }
+    calls
+}
+
+/// Texts with a stretch cut out, the longer stretches first.
+fn shorter_texts(call: &Call) -> Vec<Call> {
+    let mut calls = Vec::new();
+    let mut stretch = call.text.len();
+    while stretch > 0 {
+        for from in (0..call.text.len()).step_by(stretch) {
+            let mut shorter = call.clone();
+            shorter
+                .text
+                .drain(from..(from + stretch).min(call.text.len()));
+            calls.push(shorter);
+        }
+        stretch /= 2;
+    }
+    calls
+}
+
+/// The input and both answers, to paste.
+pub fn print_difference(call: &Call, expected: &[u8], got: &[u8]) {
+    println!("what: {:?}", call.what);
+    if call.what == What::ReadMap {
+        println!(
+            "cell room {}, text of {} bytes:",
+            call.byte_room,
+            call.text.len()
+        );
+        println!("{}", quoted(&call.text));
+    } else {
+        println!(
+            "width {}, height {}, ways {}, start {}, goal {}, limit or cost {}",
+            call.width, call.height, call.ways, call.start, call.goal, call.limit
+        );
+        println!(
+            "costs room {}, work room {}, route or text room {}",
+            call.costs_room, call.work_room, call.byte_room
+        );
+        print_map(call.width, &call.map);
+    }
+    if call.what == What::RouteClaim {
+        println!("route: {:?}", call.route);
+    }
+    if call.what == What::TableClaim {
+        println!("table: {}", costs(&call.table));
+    }
+    println!("by 01:       {}", reply_words(call, expected));
+    println!("the program: {}", reply_words(call, got));
+}
+
+pub fn print_map(width: u32, map: &[u8]) {
+    println!("map of {} bytes:", map.len());
+    for row in map.chunks(width.clamp(1, 256) as usize) {
+        let mut line = String::new();
+        for weight in row {
+            match weight {
+                0 => line.push('@'),
+                1 => line.push('.'),
+                2..=9 => line.push((b'0' + weight) as char),
+                _ => line.push_str(&format!("<{}>", weight)),
+            }
+        }
+        println!("    {}", line);
+    }
+}
+
+/// Text with its line ends and odd bytes to be seen; of a long one the two ends.
+pub fn quoted(text: &[u8]) -> String {
+    let escaped = |bytes: &[u8]| bytes.escape_ascii().to_string();
+    if text.len() <= 1000 {
+        return format!("    \"{}\"", escaped(text));
+    }
+    let (front, back) = (&text[..400], &text[text.len() - 400..]);
+    format!("    \"{}\" ... \"{}\"", escaped(front), escaped(back))
+}
+
+fn costs(values: &[u32]) -> String {
+    let words: Vec<String> = values
+        .iter()
+        .map(|value| match *value {
+            MARK => "MARK".to_string(),
+            value => value.to_string(),
+        })
+        .collect();
+    words.join(" ")
+}
+
+fn numbers_of(bytes: &[u8]) -> Vec<u32> {
+    bytes
+        .chunks_exact(4)
+        .map(|four| u32::from_le_bytes([four[0], four[1], four[2], four[3]]))
+        .collect()
+}
+
+/// The kind of answer that a reply has, in a word and its number.
+pub fn outcome(call: &Call, reply: &[u8]) -> String {
+    let head = numbers_of(&reply[..8]);
+    let (part, number, good) = match call.what {
+        What::Search => (
+            "search",
+            head[1],
+            ["", "found", "none", "stopped"][head[0] as usize],
+        ),
+        What::RouteClaim => ("route", head[0], "holds"),
+        What::TableClaim => ("table", head[0], "right"),
+        What::ReadMap => ("reader", head[0], "read"),
+        What::WriteMap => ("writer", head[0], "written"),
+    };
+    match number {
+        0 => format!("{} {}", part, good),
+        1000 => format!("{} breaks", part),
+        _ => format!("{} {}", part, number),
+    }
+}
+
+fn reply_words(call: &Call, reply: &[u8]) -> String {
+    if reply.len() < call.reply_length() {
+        return format!("only {} bytes of {}", reply.len(), call.reply_length());
+    }
+    match call.what {
+        What::Search => {
+            let (head, rooms) = reply.split_at(24);
+            let (costs_room, rest) = rooms.split_at(4 * call.costs_room);
+            let (work, route) = rest.split_at(4 * call.work_room);
+            format!(
+                "kind, refusal, place, settled, number, length {:?}\n    costs {}\n    work {}\n    route {:?}",
+                numbers_of(head),
+                costs(&numbers_of(costs_room)),
+                runs(&numbers_of(work)),
+                route
+            )
+        }
+        What::RouteClaim => format!("number, place, cost {:?}", numbers_of(reply)),
+        What::TableClaim => format!(
+            "number (1000 breaks), place or cell {:?}",
+            &numbers_of(reply)[..2]
+        ),
+        What::ReadMap => format!(
+            "refusal, place, width, height, ways {:?}, cells {:?}",
+            numbers_of(&reply[..20]),
+            &reply[20..]
+        ),
+        What::WriteMap => format!(
+            "refusal, place, length {:?}\n{}",
+            numbers_of(&reply[..12]),
+            quoted(&reply[12..])
+        ),
+    }
+}
+
+/// Numbers with equal ones in a row counted: the work room is long and mostly zeros.
+fn runs(values: &[u32]) -> String {
+    let mut words = Vec::new();
+    let mut from = 0;
+    while from < values.len() {
+        let length = values[from..]
+            .iter()
+            .take_while(|value| **value == values[from])
+            .count();
+        words.push(format!("{} times {}", length, values[from]));
+        from += length;
+    }
+    words.join(", ")
+}
