@@ -180,6 +180,8 @@ def calls():
         refused_reading(b"type octile\r\n", 21, 0),
         writing(a, 4),
         search(a, 0, 2, 5, 0),
+        (head(9, a), b""),  # an unknown call ends the program: what follows gets no reply
+        (search(a, 0, 2, 5, 0)[0], b""),
     ]
 
 

@@ -105,6 +105,12 @@ pub fn good_search(random: &mut Random, scene: &Scene, limit: u32) -> Call {
     call.costs_room = cells + longer(random);
     call.work_room = 2 * cells + longer(random);
     call.byte_room = cells + longer(random);
+    if random.once_in(300) {
+        // the whole rooms of the program
+        call.costs_room = 66000;
+        call.work_room = 132000;
+        call.byte_room = 66000;
+    }
     call
 }
 
@@ -132,6 +138,34 @@ pub fn wild_search(random: &mut Random, scene: &Scene) -> Call {
     call.work_room = about(random, 2 * cells);
     call.byte_room = about(random, cells);
     spoil(random, &mut call);
+    call
+}
+
+/// A map with a side just too large, and of the right length for its sides.
+pub fn too_large(random: &mut Random) -> Call {
+    let mut call = Call::of(random.one_of(&[
+        What::Search,
+        What::RouteClaim,
+        What::TableClaim,
+        What::WriteMap,
+    ]));
+    let (long, other) = (random.one_of(&[256, 257]), random.between(1, 256) as u32);
+    let sides = random.one_of(&[(long, other), (other, long)]);
+    call.width = sides.0;
+    call.height = sides.1;
+    let cells = (call.width * call.height) as usize;
+    call.map = vec![1; cells];
+    match call.what {
+        What::Search => {
+            call.limit = 300;
+            call.costs_room = cells;
+            call.work_room = 2 * cells;
+            call.byte_room = cells;
+        }
+        What::TableClaim => call.table = vec![0; cells],
+        What::WriteMap => call.byte_room = 66000,
+        _ => (),
+    }
     call
 }
 
@@ -317,8 +351,8 @@ fn damage_table(random: &mut Random, call: &mut Call) {
                 MARK - random.one_of(&[1, 69, 70, 71, 98, 99, 100, 140, 630, 891, 892])
         }
         5 => lift_all(random, call),
-        6 => drop(call.table.pop()),
-        7 => call.table.truncate(cell),
+        6 if random.once_in(3) => drop(call.table.pop()),
+        7 if random.once_in(3) => call.table.truncate(cell),
         _ => call.table.push(random.below(1 << 32) as u32),
     }
 }

@@ -53,7 +53,7 @@ pub struct Counts {
 }
 
 impl Counts {
-    fn meet(&mut self, answer: String) {
+    pub fn meet(&mut self, answer: String) {
         *self.met.entry(answer).or_insert(0) += 1;
     }
 }
@@ -135,6 +135,7 @@ impl Comparison {
         let limit = random.below(scene.n + 1) as u32;
         self.compare(&generate::good_search(random, &scene, limit))?;
         self.compare(&generate::wild_search(random, &scene))?;
+        self.compare(&generate::too_large(random))?;
         for _ in 0..2 {
             self.compare(&generate::route_claim(random, &scene))?;
             self.compare_table(random, &scene)?;
@@ -215,7 +216,7 @@ fn main() -> ExitCode {
         .iter()
         .map(|(answer, times)| format!("{} {}", times, answer))
         .collect();
-    println!("answers of calls: {}", met.join(", "));
+    println!("answers: {}", met.join(", "));
     match compared {
         Ok(()) => {
             println!("compared: {}; no difference", comparison.counts);

@@ -49,6 +49,7 @@ impl Planner {
         let expected = output(file.text(), &input);
         let got = self.run(&file, &input, &sending);
         counts.map_texts += 1;
+        meet(counts, &expected);
         if got == expected {
             counts.records += (expected.len() / RECORD) as u64;
             return Ok(());
@@ -86,11 +87,11 @@ impl Planner {
             let mut call = asked(drawn, record);
             if self.differs(&call, record) {
                 call = shrunk(&call, &mut |other| self.differs(other, record));
-                let (by_01, program) = self.both(&call, record);
+                let (independent, program) = self.both(&call, record);
                 println!("planner, one question");
                 print_map(call.width, &call.map);
                 println!("question {}", hex(&question_of(&call, record)));
-                println!("by 01:       {}", hex(&by_01));
+                println!("independent: {}", hex(&independent));
                 println!("the program: {}", hex(&program));
                 return;
             }
@@ -101,21 +102,40 @@ impl Planner {
             None => println!("floor.map: {:?}", file),
         }
         println!("input of {} bytes: {}", input.len(), hex(input));
-        println!("by 01:       {}\n{}", hex(expected), quoted(expected));
+        println!("independent: {}\n{}", hex(expected), quoted(expected));
         println!("the program: {}\n{}", hex(got), quoted(got));
     }
 
     fn differs(&self, call: &Call, record: &[u8]) -> bool {
-        let (by_01, program) = self.both(call, record);
-        by_01 != program
+        let (independent, program) = self.both(call, record);
+        independent != program
     }
 
     fn both(&self, call: &Call, record: &[u8]) -> (Vec<u8>, Vec<u8>) {
         let text = text_of(call.width as u64, call.height as u64, &call.map);
         let input = question_of(call, record);
-        let by_01 = output(Some(&text), &input);
+        let independent = output(Some(&text), &input);
         let sending = Sending::Pieces(vec![RECORD]);
-        (by_01, self.run(&MapFile::Text(text), &input, &sending))
+        (
+            independent,
+            self.run(&MapFile::Text(text), &input, &sending),
+        )
+    }
+}
+
+/// Counts the answers, or the line about the map.
+fn meet(counts: &mut Counts, output: &[u8]) {
+    if output.starts_with(b"map ") {
+        let line = String::from_utf8_lossy(output);
+        let words: Vec<&str> = line.split_whitespace().take(3).collect();
+        return counts.meet(words.join(" "));
+    }
+    for record in output.chunks(RECORD) {
+        let good = ["", "found", "none", "stopped"][record[0] as usize];
+        match record[1] {
+            0 => counts.meet(format!("record {}", good)),
+            number => counts.meet(format!("record {}", number)),
+        }
     }
 }
 
@@ -162,13 +182,20 @@ fn some_file(random: &mut Random, drawn: &Drawn) -> MapFile {
 
 /// Question records, and now and then a broken last one.
 fn some_input(random: &mut Random, drawn: &Drawn) -> Vec<u8> {
+    let mut scenes = random.below(if drawn.map.len() > 1000 { 3 } else { 9 });
+    // now and then more than the pipes hold, both ways
+    let least = if drawn.map.len() <= 40 && random.once_in(8) {
+        150_000
+    } else {
+        0
+    };
     let mut input = Vec::new();
-    let scenes = if drawn.map.len() > 1000 { 2 } else { 8 };
-    for _ in 0..random.below(scenes + 1) {
+    while scenes > 0 || input.len() < least {
         let scene = Scene::of(random, drawn);
         for _ in 0..random.between(1, 12) {
             input.extend(question(random, &scene));
         }
+        scenes = scenes.saturating_sub(1);
     }
     if random.once_in(3) {
         let broken = random.between(1, RECORD as u64 - 1) as usize;

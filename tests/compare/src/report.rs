@@ -1,19 +1,20 @@
 //! What a difference looks like, and how its input is made smaller before it is printed.
 
+use std::time::{Duration, Instant};
+
 use crate::calls::{Call, What};
 use crate::floor::MARK;
 
-/// No more than so many smaller inputs are tried.
-const TRIES: usize = 3000;
+/// Smaller inputs are tried no longer than this.
+const PATIENCE: Duration = Duration::from_secs(20);
 
 /// A smaller call that still shows a difference. `differs` asks both sides.
 pub fn shrunk(call: &Call, differs: &mut dyn FnMut(&Call) -> bool) -> Call {
     let mut best = call.clone();
-    let mut tries = 0;
+    let begun = Instant::now();
     'again: loop {
         for smaller in smaller_calls(&best) {
-            tries += 1;
-            if tries > TRIES {
+            if begun.elapsed() > PATIENCE {
                 return best;
             }
             if differs(&smaller) {
@@ -149,7 +150,7 @@ pub fn print_difference(call: &Call, expected: &[u8], got: &[u8]) {
     if call.what == What::TableClaim {
         println!("table: {}", costs(&call.table));
     }
-    println!("by 01:       {}", reply_words(call, expected));
+    println!("independent: {}", reply_words(call, expected));
     println!("the program: {}", reply_words(call, got));
 }
 
