@@ -72,7 +72,7 @@ impl Planner {
         run_planner(&self.start, &self.program, &self.folder, input, sending)
     }
 
-    /// Prints the first record that differs, alone and on a smaller floor if it differs there too, else all that was sent.
+    /// Prints the input that shows the difference, as small as it can be made: a text, one question, or all that was sent.
     fn report(
         &self,
         drawn: &Drawn,
@@ -83,27 +83,61 @@ impl Planner {
         got: &[u8],
     ) {
         let index = first_difference(expected, got) / RECORD;
-        if let Some(record) = input.chunks_exact(RECORD).nth(index) {
-            let mut call = asked(drawn, record);
-            if self.differs(&call, record) {
-                call = shrunk(&call, &mut |other| self.differs(other, record));
-                let (independent, program) = self.both(&call, record);
-                println!("planner, one question");
-                print_map(call.width, &call.map);
-                println!("question {}", hex(&question_of(&call, record)));
-                println!("independent: {}", hex(&independent));
-                println!("the program: {}", hex(&program));
-                return;
+        let about_map = expected.starts_with(b"map ") || got.starts_with(b"map ");
+        match (file, input.chunks_exact(RECORD).nth(index)) {
+            (MapFile::Text(text), _) if about_map && self.reads_differ(text) => {
+                self.report_text(text)
+            }
+            (_, Some(record)) if !about_map && self.differs(&asked(drawn, record), record) => {
+                self.report_question(drawn, record)
+            }
+            _ => {
+                println!(
+                    "planner, {:?}, output differs from record {} on",
+                    sending, index
+                );
+                println!(
+                    "floor.map: {}",
+                    file.text().map_or(format!("{:?}", file), quoted)
+                );
+                println!("input of {} bytes:\n    {}", input.len(), hex(input));
+                println!("independent:\n    {}", hex(expected));
+                println!("the program:\n    {}", hex(got));
             }
         }
-        println!("planner, {:?}", sending);
-        match file.text() {
-            Some(text) => println!("floor.map of {} bytes:\n{}", text.len(), quoted(text)),
-            None => println!("floor.map: {:?}", file),
-        }
-        println!("input of {} bytes: {}", input.len(), hex(input));
-        println!("independent: {}\n{}", hex(expected), quoted(expected));
-        println!("the program: {}\n{}", hex(got), quoted(got));
+    }
+
+    fn report_text(&self, text: &[u8]) {
+        let mut call = Call::of(What::ReadMap);
+        call.text = text.to_vec();
+        let text = shrunk(&call, &mut |other| self.reads_differ(&other.text)).text;
+        println!(
+            "planner, floor.map of {} bytes and no question:\n{}",
+            text.len(),
+            quoted(&text)
+        );
+        println!("independent: {}", quoted(&output(Some(&text), &[])));
+        println!("the program: {}", quoted(&self.read(&text)));
+    }
+
+    fn reads_differ(&self, text: &[u8]) -> bool {
+        self.read(text) != output(Some(text), &[])
+    }
+
+    fn read(&self, text: &[u8]) -> Vec<u8> {
+        self.run(&MapFile::Text(text.to_vec()), &[], &Sending::OneByOne)
+    }
+
+    fn report_question(&self, drawn: &Drawn, record: &[u8]) {
+        let call = shrunk(&asked(drawn, record), &mut |other| {
+            self.differs(other, record)
+        });
+        let (independent, program) = self.both(&call, record);
+        println!("planner, one question");
+        print_map(call.width, &call.map);
+        println!("question     {}", hex(&question_of(&call, record)));
+        println!("independent: {}", hex(&independent));
+        println!("the program: {}", hex(&program));
     }
 
     fn differs(&self, call: &Call, record: &[u8]) -> bool {
@@ -165,8 +199,13 @@ fn question_of(call: &Call, record: &[u8]) -> Vec<u8> {
     smaller
 }
 
+/// The bytes, of many only the first.
 fn hex(bytes: &[u8]) -> String {
-    let words: Vec<String> = bytes.iter().map(|byte| format!("{:02x}", byte)).collect();
+    let words: Vec<String> = bytes
+        .iter()
+        .take(1024)
+        .map(|byte| format!("{:02x}", byte))
+        .collect();
     words.join(" ")
 }
 

@@ -120,6 +120,13 @@ fn shorter_texts(call: &Call) -> Vec<Call> {
         }
         stretch /= 2;
     }
+    for room in [call.byte_room / 2, call.byte_room.saturating_sub(1)] {
+        if room < call.byte_room {
+            let mut shorter = call.clone();
+            shorter.byte_room = room;
+            calls.push(shorter);
+        }
+    }
     calls
 }
 
@@ -219,6 +226,10 @@ pub fn outcome(call: &Call, reply: &[u8]) -> String {
     }
 }
 
+fn widened(bytes: &[u8]) -> Vec<u32> {
+    bytes.iter().map(|byte| *byte as u32).collect()
+}
+
 fn reply_words(call: &Call, reply: &[u8]) -> String {
     if reply.len() < call.reply_length() {
         return format!("only {} bytes of {}", reply.len(), call.reply_length());
@@ -229,11 +240,11 @@ fn reply_words(call: &Call, reply: &[u8]) -> String {
             let (costs_room, rest) = rooms.split_at(4 * call.costs_room);
             let (work, route) = rest.split_at(4 * call.work_room);
             format!(
-                "kind, refusal, place, settled, number, length {:?}\n    costs {}\n    work {}\n    route {:?}",
+                "kind, refusal, place, settled, number, length {:?}\n    costs {}\n    work {}\n    route {}",
                 numbers_of(head),
                 costs(&numbers_of(costs_room)),
                 runs(&numbers_of(work)),
-                route
+                runs(&widened(route))
             )
         }
         What::RouteClaim => format!("number, place, cost {:?}", numbers_of(reply)),
@@ -242,9 +253,9 @@ fn reply_words(call: &Call, reply: &[u8]) -> String {
             &numbers_of(reply)[..2]
         ),
         What::ReadMap => format!(
-            "refusal, place, width, height, ways {:?}, cells {:?}",
+            "refusal, place, width, height, ways {:?}\n    cells {}",
             numbers_of(&reply[..20]),
-            &reply[20..]
+            runs(&widened(&reply[20..]))
         ),
         What::WriteMap => format!(
             "refusal, place, length {:?}\n{}",
@@ -254,7 +265,7 @@ fn reply_words(call: &Call, reply: &[u8]) -> String {
     }
 }
 
-/// Numbers with equal ones in a row counted: the work room is long and mostly zeros.
+/// Numbers with equal ones in a row counted: rooms are long and mostly the same number.
 fn runs(values: &[u32]) -> String {
     let mut words = Vec::new();
     let mut from = 0;
@@ -263,7 +274,10 @@ fn runs(values: &[u32]) -> String {
             .iter()
             .take_while(|value| **value == values[from])
             .count();
-        words.push(format!("{} times {}", length, values[from]));
+        words.push(match length {
+            1 => values[from].to_string(),
+            _ => format!("{} times {}", length, values[from]),
+        });
         from += length;
     }
     words.join(", ")
