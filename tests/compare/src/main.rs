@@ -38,7 +38,7 @@ use random::Random;
 const LARGE: u64 = 50;
 
 /// Every so many rounds the planner is run.
-const PLANNER: u64 = 4;
+const PLANNER: u64 = 3;
 
 /// What has been compared.
 #[derive(Default)]

@@ -6,7 +6,7 @@ use std::path::PathBuf;
 use crate::calls::{Call, What};
 use crate::floors::{any_floor, Drawn};
 use crate::generate::{question, Scene};
-use crate::maptext::text_of;
+use crate::maptext::{read_map, text_of, Map};
 use crate::pipes::{run_planner, Sending, RECORD};
 use crate::program::output;
 use crate::random::Random;
@@ -49,14 +49,16 @@ impl Planner {
         let expected = output(file.text(), &input);
         let got = self.run(&file, &input, &sending);
         counts.map_texts += 1;
-        meet(counts, &expected);
         if got == expected {
-            counts.records += (expected.len() / RECORD) as u64;
+            meet(counts, &expected);
             return Ok(());
         }
-        let place = first_difference(&expected, &got);
-        counts.records += (place / RECORD) as u64;
-        self.report(&drawn, &file, &input, &sending, &expected, &got);
+        let index = first_difference(&expected, &got) / RECORD;
+        meet(
+            counts,
+            &expected[..expected.len().min((index + 1) * RECORD)],
+        );
+        self.report(&file, &input, &sending, &expected, &got);
         Err(Differs)
     }
 
@@ -73,38 +75,32 @@ impl Planner {
     }
 
     /// Prints the input that shows the difference, as small as it can be made: a text, one question, or all that was sent.
-    fn report(
-        &self,
-        drawn: &Drawn,
-        file: &MapFile,
-        input: &[u8],
-        sending: &Sending,
-        expected: &[u8],
-        got: &[u8],
-    ) {
+    fn report(&self, file: &MapFile, input: &[u8], sending: &Sending, expected: &[u8], got: &[u8]) {
         let index = first_difference(expected, got) / RECORD;
         let about_map = expected.starts_with(b"map ") || got.starts_with(b"map ");
-        match (file, input.chunks_exact(RECORD).nth(index)) {
-            (MapFile::Text(text), _) if about_map && self.reads_differ(text) => {
-                self.report_text(text)
+        if let MapFile::Text(text) = file {
+            if about_map && self.reads_differ(text) {
+                return self.report_text(text);
             }
-            (_, Some(record)) if !about_map && self.differs(&asked(drawn, record), record) => {
-                self.report_question(drawn, record)
-            }
-            _ => {
-                println!(
-                    "planner, {:?}, output differs from record {} on",
-                    sending, index
-                );
-                println!(
-                    "floor.map: {}",
-                    file.text().map_or(format!("{:?}", file), quoted)
-                );
-                println!("input of {} bytes:\n    {}", input.len(), hex(input));
-                println!("independent:\n    {}", hex(expected));
-                println!("the program:\n    {}", hex(got));
+            let record = input.chunks_exact(RECORD).nth(index);
+            if let (Ok(map), Some(record)) = (read_map(text, 4096), record) {
+                let call = asked(&map, record);
+                if self.differs(&call, record) {
+                    return self.report_question(&call, record);
+                }
             }
         }
+        println!(
+            "planner, {:?}, output differs from record {} on",
+            sending, index
+        );
+        match file.text() {
+            Some(text) => println!("floor.map: {}", quoted(text)),
+            None => println!("floor.map: {:?}", file),
+        }
+        println!("input of {} bytes:\n    {}", input.len(), hex(input));
+        println!("independent:\n    {}", hex(expected));
+        println!("the program:\n    {}", hex(got));
     }
 
     fn report_text(&self, text: &[u8]) {
@@ -128,10 +124,8 @@ impl Planner {
         self.run(&MapFile::Text(text.to_vec()), &[], &Sending::OneByOne)
     }
 
-    fn report_question(&self, drawn: &Drawn, record: &[u8]) {
-        let call = shrunk(&asked(drawn, record), &mut |other| {
-            self.differs(other, record)
-        });
+    fn report_question(&self, call: &Call, record: &[u8]) {
+        let call = shrunk(call, &mut |other| self.differs(other, record));
         let (independent, program) = self.both(&call, record);
         println!("planner, one question");
         print_map(call.width, &call.map);
@@ -164,7 +158,8 @@ fn meet(counts: &mut Counts, output: &[u8]) {
         let words: Vec<&str> = line.split_whitespace().take(3).collect();
         return counts.meet(words.join(" "));
     }
-    for record in output.chunks(RECORD) {
+    for record in output.chunks_exact(RECORD) {
+        counts.records += 1;
         let good = ["", "found", "none", "stopped"][record[0] as usize];
         match record[1] {
             0 => counts.meet(format!("record {}", good)),
@@ -178,14 +173,14 @@ fn first_difference(a: &[u8], b: &[u8]) -> usize {
 }
 
 /// A question as a search, so that it can be made smaller like one.
-fn asked(drawn: &Drawn, record: &[u8]) -> Call {
+fn asked(map: &Map, record: &[u8]) -> Call {
     let number = |at: usize| {
         u32::from_le_bytes([record[at], record[at + 1], record[at + 2], record[at + 3]])
     };
     let mut call = Call::of(What::Search);
-    call.width = drawn.width;
-    call.height = drawn.height;
-    call.map = drawn.map.clone();
+    call.width = map.width as u32;
+    call.height = map.height as u32;
+    call.map = map.cells.clone();
     call.start = number(0);
     call.goal = number(4);
     call.limit = number(8);
@@ -223,7 +218,7 @@ fn some_file(random: &mut Random, drawn: &Drawn) -> MapFile {
 fn some_input(random: &mut Random, drawn: &Drawn) -> Vec<u8> {
     let mut scenes = random.below(if drawn.map.len() > 1000 { 3 } else { 9 });
     // now and then more than the pipes hold, both ways
-    let least = if drawn.map.len() <= 40 && random.once_in(8) {
+    let least = if drawn.map.len() <= 40 && random.once_in(16) {
         150_000
     } else {
         0
