@@ -30,7 +30,6 @@ impl Scene {
         }
     }
 
-    /// Other ends on the same floor.
     pub fn of(random: &mut Random, drawn: &Drawn) -> Scene {
         let mut scene = Scene {
             drawn: drawn.clone(),
@@ -77,7 +76,7 @@ impl Scene {
         call
     }
 
-    /// "Limits around every edge."
+    /// Limits on both sides of every edge of 01's table of answers.
     pub fn limits(&self) -> Vec<u32> {
         let i = self.i.unwrap_or(self.n) as u32;
         let n = self.n as u32;
@@ -357,7 +356,7 @@ fn damage_table(random: &mut Random, call: &mut Call) {
     }
 }
 
-/// Makes unreached cells numbers near MARK, in the way the rule asks for as far as one damaged cell can.
+/// Makes some of the cells that are not reached numbers near MARK.
 fn lift_all(random: &mut Random, call: &mut Call) {
     let base = MARK - random.one_of(&[70, 99, 140, 169, 210, 630, 1000]);
     for (value, weight) in call.table.iter_mut().zip(&call.map) {
@@ -367,7 +366,7 @@ fn lift_all(random: &mut Random, call: &mut Call) {
     }
 }
 
-/// Mends the lowest breaking cell again and again, so that a damaged table breaks late or only by a cell that no sum reaches.
+/// Mends the lowest breaking cell again and again, so that a damaged table breaks late.
 pub fn mended(mut call: Call, times: usize) -> Call {
     for _ in 0..times {
         let verdict = check_table(call.floor(), &call.map, call.start as u64, &call.table);
@@ -388,10 +387,10 @@ pub fn mended(mut call: Call, times: usize) -> Call {
     call
 }
 
-/// The floor of a round: mostly small; now and then up to `greatest`.
-pub fn floor_of_round(random: &mut Random, greatest: u64) -> Drawn {
+/// The floor of a round that is not a large one: mostly small.
+pub fn small_floor(random: &mut Random) -> Drawn {
     let side = match random.below(16) {
-        0 => greatest.min(40),
+        0 => 40,
         1 | 2 => 16,
         3..=5 => 3,
         _ => 8,

@@ -101,7 +101,7 @@ impl Comparison {
         if round % LARGE == LARGE - 1 {
             return self.large_round(random);
         }
-        let drawn = generate::floor_of_round(random, 64);
+        let drawn = generate::small_floor(random);
         for _ in 0..3 {
             let scene = Scene::of(random, &drawn);
             for limit in scene.limits() {
