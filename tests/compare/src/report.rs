@@ -45,6 +45,7 @@ fn smaller_calls(call: &Call) -> Vec<Call> {
         calls.push(shorter);
     }
     if call.what == What::Search {
+        calls.extend(just_enough(call));
         for limit in [call.limit / 2, call.limit.saturating_sub(1)] {
             if limit < call.limit {
                 let mut earlier = call.clone();
@@ -91,6 +92,20 @@ fn without(call: &Call, gone: impl Fn(u32, u32) -> bool, columns: u32, rows: u32
     smaller.work_room = call.work_room.saturating_sub(2 * fewer);
     smaller.byte_room = call.byte_room.saturating_sub(fewer);
     Some(smaller)
+}
+
+/// The call with rooms that are just long enough, if one is longer.
+fn just_enough(call: &Call) -> Option<Call> {
+    let cells = call.map.len();
+    let mut smaller = call.clone();
+    smaller.costs_room = call.costs_room.min(cells);
+    smaller.work_room = call.work_room.min(2 * cells);
+    smaller.byte_room = call.byte_room.min(cells);
+    let length = |call: &Call| call.costs_room + call.work_room + call.byte_room;
+    if length(&smaller) < length(call) {
+        return Some(smaller);
+    }
+    None
 }
 
 /// The call with one cell made open, of weight 1.
@@ -155,7 +170,7 @@ pub fn print_difference(call: &Call, expected: &[u8], got: &[u8]) {
         println!("route: {:?}", call.route);
     }
     if call.what == What::TableClaim {
-        println!("table: {}", costs(&call.table));
+        println!("table: {}", runs(&call.table));
     }
     println!("independent: {}", reply_words(call, expected));
     println!("the program: {}", reply_words(call, got));
@@ -185,17 +200,6 @@ pub fn quoted(text: &[u8]) -> String {
     }
     let (front, back) = (&text[..400], &text[text.len() - 400..]);
     format!("    \"{}\" ... \"{}\"", escaped(front), escaped(back))
-}
-
-fn costs(values: &[u32]) -> String {
-    let words: Vec<String> = values
-        .iter()
-        .map(|value| match *value {
-            MARK => "MARK".to_string(),
-            value => value.to_string(),
-        })
-        .collect();
-    words.join(" ")
 }
 
 fn numbers_of(bytes: &[u8]) -> Vec<u32> {
@@ -237,12 +241,12 @@ fn reply_words(call: &Call, reply: &[u8]) -> String {
     match call.what {
         What::Search => {
             let (head, rooms) = reply.split_at(24);
-            let (costs_room, rest) = rooms.split_at(4 * call.costs_room);
+            let (costs, rest) = rooms.split_at(4 * call.costs_room);
             let (work, route) = rest.split_at(4 * call.work_room);
             format!(
                 "kind, refusal, place, settled, number, length {:?}\n    costs {}\n    work {}\n    route {}",
                 numbers_of(head),
-                costs(&numbers_of(costs_room)),
+                runs(&numbers_of(costs)),
                 runs(&numbers_of(work)),
                 runs(&widened(route))
             )
@@ -270,13 +274,18 @@ fn runs(values: &[u32]) -> String {
     let mut words = Vec::new();
     let mut from = 0;
     while from < values.len() {
+        let value = values[from];
         let length = values[from..]
             .iter()
-            .take_while(|value| **value == values[from])
+            .take_while(|other| **other == value)
             .count();
+        let word = match value {
+            MARK => "MARK".to_string(),
+            _ => value.to_string(),
+        };
         words.push(match length {
-            1 => values[from].to_string(),
-            _ => format!("{} times {}", length, values[from]),
+            1 => word,
+            _ => format!("{} ({} times)", word, length),
         });
         from += length;
     }
