@@ -197,11 +197,15 @@ fn answer_search(
 
 // ---- claims
 
-fn send_three(reply: &mut [u8], number: u32, place: usize, last: u32) -> bool {
+fn with_three(reply: &mut [u8], number: u32, place: usize, last: u32) -> usize {
     let one = with_number(reply, 0, number);
     let two = with_count(reply, one, place);
-    let three = with_number(reply, two, last);
-    bytes::send(reply, three)
+    with_number(reply, two, last)
+}
+
+fn send_three(reply: &mut [u8], number: u32, place: usize, last: u32) -> bool {
+    let length = with_three(reply, number, place, last);
+    bytes::send(reply, length)
 }
 
 fn check_route(call: Call, map: &[u8], route: &[u8], reply: &mut [u8]) -> bool {
@@ -309,16 +313,10 @@ fn answer_read(call: Call, map: &mut [u8], text: &mut [u8], reply: &mut [u8]) ->
     false
 }
 
-fn with_three(reply: &mut [u8], number: u32, place: usize, last: usize) -> usize {
-    let one = with_number(reply, 0, number);
-    let two = with_count(reply, one, place);
-    with_count(reply, two, last)
-}
-
 fn with_written(reply: &mut [u8], written: Written) -> usize {
     match written {
         Written::Refused(number, place) => with_three(reply, number, place, 0),
-        Written::Length(length) => with_three(reply, 0, 0, length),
+        Written::Length(length) => with_three(reply, 0, 0, short(length)),
     }
 }
 

@@ -11,8 +11,8 @@ pub fn good_text(random: &mut Random, drawn: &Drawn) -> Vec<u8> {
         let rows = text.len() - drawn.map.len() - drawn.height as usize;
         for byte in &mut text[rows..] {
             *byte = match *byte {
-                b'.' => random.one_of(&[b'.', b'G', b'1']),
-                b'@' => random.one_of(&[b'@', b'O', b'T']),
+                b'.' => random.one_of(b".G1"),
+                b'@' => random.one_of(b"@OT"),
                 other => other,
             };
         }
