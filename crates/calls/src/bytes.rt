@@ -10,7 +10,7 @@ fn widened(byte: u8) -> u32
 }
 
 // What lies past the bytes counts as 0.
-pub fn number_at(bytes: &[u8], at: usize) -> u32 {
+pub(crate) fn number_at(bytes: &[u8], at: usize) -> u32 {
     if bytes.len() < 4 {
         return 0;
     }
@@ -24,7 +24,7 @@ pub fn number_at(bytes: &[u8], at: usize) -> u32 {
     a + 256 * b + 65536 * c + 16777216 * d
 }
 
-pub fn fill_numbers(room: &mut [u32], value: u32) {
+pub(crate) fn fill_numbers(room: &mut [u32], value: u32) {
     let mut i = 0;
     while i < room.len() {
         room[i] = value;
@@ -32,7 +32,7 @@ pub fn fill_numbers(room: &mut [u32], value: u32) {
     }
 }
 
-pub fn fill_bytes(room: &mut [u8], value: u8) {
+pub(crate) fn fill_bytes(room: &mut [u8], value: u8) {
     let mut i = 0;
     while i < room.len() {
         room[i] = value;
@@ -41,7 +41,7 @@ pub fn fill_bytes(room: &mut [u8], value: u8) {
 }
 
 // Fills the room from standard input. False if the input ends before.
-pub fn read_bytes(room: &mut [u8]) -> bool {
+pub(crate) fn read_bytes(room: &mut [u8]) -> bool {
     let wanted = room.len();
     let got = io::read_full(STDIN_FILENO, room);
     wanted <= got
@@ -56,7 +56,7 @@ fn numbers_of(bytes: &[u8], room: &mut [u32]) {
 }
 
 // The same for a room of numbers; `bytes` is lent to hold what is read.
-pub fn read_numbers(room: &mut [u32], bytes: &mut [u8]) -> bool {
+pub(crate) fn read_numbers(room: &mut [u32], bytes: &mut [u8]) -> bool {
     if bytes.len() / 4 < room.len() {
         return false;
     }
@@ -82,14 +82,14 @@ fn with_byte(reply: &mut [u8], at: usize, byte: u8) -> usize {
     0
 }
 
-pub fn with_number(reply: &mut [u8], at: usize, n: u32) -> usize {
+pub(crate) fn with_number(reply: &mut [u8], at: usize, n: u32) -> usize {
     let one = with_byte(reply, at, (n % 256) as u8);
     let two = with_byte(reply, one, (n / 256 % 256) as u8);
     let three = with_byte(reply, two, (n / 65536 % 256) as u8);
     with_byte(reply, three, (n / 16777216) as u8)
 }
 
-pub fn with_numbers(reply: &mut [u8], from: usize, room: &[u32]) -> usize {
+pub(crate) fn with_numbers(reply: &mut [u8], from: usize, room: &[u32]) -> usize {
     let mut at = from;
     let mut i = 0;
     while i < room.len() {
@@ -99,7 +99,7 @@ pub fn with_numbers(reply: &mut [u8], from: usize, room: &[u32]) -> usize {
     at
 }
 
-pub fn with_bytes(reply: &mut [u8], from: usize, room: &[u8]) -> usize {
+pub(crate) fn with_bytes(reply: &mut [u8], from: usize, room: &[u8]) -> usize {
     let mut at = from;
     let mut i = 0;
     while i < room.len() {
@@ -110,7 +110,7 @@ pub fn with_bytes(reply: &mut [u8], from: usize, room: &[u8]) -> usize {
 }
 
 // Writes the rest of the reply. False if it cannot be written.
-pub fn send(reply: &[u8], length: usize) -> bool {
+pub(crate) fn send(reply: &[u8], length: usize) -> bool {
     if reply.len() < length {
         return false;
     }
