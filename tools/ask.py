@@ -135,7 +135,7 @@ def search(text, given):
 
 
 def place_words(floor, cell):
-    off = "" if cell_number(floor, cell) != MARK else ", off the map"
+    off = "" if cell_number(floor, cell) != MARK else " off the map"
     return f"({cell[0]},{cell[1]}){off}"
 
 

@@ -202,10 +202,10 @@ def main():
         (folder / f"{name}.map").write_bytes(text)
         (folder / f"{name}.questions").write_bytes(records)
         (folder / f"{name}.answers").write_bytes(run_planner(text, records))
-        if name == "furnace":
-            # a log as of a planner that drops the smallest surcharge: weight 2 is level floor to it
+        if name == "row":
+            # a log as of a planner that drops the smallest surcharge: to it the row is level floor
             dropped = text_of([[1 if weight == 2 else weight for weight in line] for line in rows])
-            (folder / "furnace.old.answers").write_bytes(run_planner(dropped, records))
+            (folder / "row.old.answers").write_bytes(run_planner(dropped, records))
         print(f"{name}: {len(records) // 16} questions")
 
 

@@ -76,8 +76,8 @@ def oddities(given):
 
 def place(floor, cell):
     """A cell as x,y, as far as it is on the map."""
-    if cell is None or cell >= floor.width * floor.height:
-        return f"cell {cell}, off the map"
+    if cell >= floor.width * floor.height:
+        return f"cell {cell} (off the map)"
     return f"({cell % floor.width},{cell // floor.width})"
 
 
