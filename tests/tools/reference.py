@@ -1,0 +1,81 @@
+"""A search of its own for the tests: 01's rules, a heap, and nothing of the project."""
+import heapq
+import struct
+
+MARK = 4294967295
+STEPS = ((0, -1), (1, -1), (1, 0), (1, 1), (0, 1), (-1, 1), (-1, 0), (-1, -1))
+
+
+def rows_of(text):
+    """Weights by row of map text that the reader takes."""
+    lines = text.decode("ascii").split("\n")
+    return [[{"@": 0, "O": 0, "T": 0, ".": 1, "G": 1}.get(c) if c in "@OT.G" else int(c) for c in line] for line in lines[4:-1]]
+
+
+def step(rows, ways, x, y, direction):
+    """The cell entered and the cost, or None."""
+    dx, dy = STEPS[direction]
+    if ways == 4 and direction % 2 == 1:
+        return None
+    if not (0 <= x + dx < len(rows[0]) and 0 <= y + dy < len(rows)):
+        return None
+    if 0 in (rows[y][x], rows[y + dy][x + dx], rows[y][x + dx], rows[y + dy][x]):
+        return None
+    return x + dx, y + dy, (99 if dx and dy else 70) * rows[y + dy][x + dx]
+
+
+def least_costs(rows, ways, start):
+    width = len(rows[0])
+    costs, waiting = {}, [(0, start)]
+    while waiting:
+        cost, cell = heapq.heappop(waiting)
+        if cell in costs:
+            continue
+        costs[cell] = cost
+        for direction in range(8):
+            entered = step(rows, ways, cell % width, cell // width, direction)
+            if entered:
+                heapq.heappush(waiting, (cost + entered[2], entered[1] * width + entered[0]))
+    return costs
+
+
+def first_route(rows, ways, costs, start, goal):
+    """Back from the goal, each time by the lowest direction that a least-cost route can end with."""
+    width, cell, route = len(rows[0]), goal, []
+    while cell != start:
+        for direction, (dx, dy) in enumerate(STEPS):
+            x, y = cell % width - dx, cell // width - dy
+            if not (0 <= x < width and 0 <= y < len(rows)):
+                continue
+            entered = step(rows, ways, x, y, direction)
+            if entered and costs[y * width + x] + entered[2] == costs[cell]:
+                route.append(direction)
+                cell = y * width + x
+                break
+    return route[::-1]
+
+
+def refusal(rows, start, goal, ways, zeros):
+    cells = [weight for row in rows for weight in row]
+    tests = (
+        (13, zeros != b"\0\0\0"), (4, ways not in (4, 8)), (5, start >= len(cells)), (6, goal >= len(cells)),
+        (7, start < len(cells) and cells[start] == 0), (8, goal < len(cells) and cells[goal] == 0),
+    )
+    return next((number for number, applies in tests if applies), 0)
+
+
+def answer(text, record):
+    """The answer record to a question record."""
+    rows = rows_of(text)
+    start, goal, limit, ways, zeros = struct.unpack("<IIIB3s", record)
+    number = refusal(rows, start, goal, ways, zeros)
+    if number:
+        return struct.pack("<BBxxIII", 0, number, 0, 0, 0)
+    costs = least_costs(rows, ways, start)
+    listed = sorted(costs, key=lambda cell: (costs[cell], cell))
+    if goal in costs and listed.index(goal) < limit:
+        length = len(first_route(rows, ways, costs, start, goal))
+        return struct.pack("<BBxxIII", 1, 0, listed.index(goal) + 1, costs[goal], length)
+    if goal not in costs and len(listed) <= limit:
+        return struct.pack("<BBxxIII", 2, 0, len(listed), MARK, 0)
+    return struct.pack("<BBxxIII", 3, 0, limit, costs[listed[limit]], 0)
