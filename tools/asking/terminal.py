@@ -10,7 +10,7 @@ MARGIN = 4
 # Colours of the 256-colour table, all with their own background, so that they read on dark and on light terminals.
 FLOOR = {1: 255, 2: 230, 3: 229, 4: 222, 5: 221, 6: 215, 7: 209, 8: 203, 9: 196}
 BLOCKED = (240, 240)
-INK = 94
+INK, LIGHT_INK = 52, 231
 DOTS = (75, 32, 19)
 ROUTE = (231, 28)
 ENDS = {"start": (231, 20), "goal": (231, 90), "both": (231, 90)}
@@ -51,16 +51,21 @@ def characters(view, cell, marks, wide):
     return first_mark(view, cell, marks)
 
 
-def colours(view, cell):
-    """Ink and background of a cell."""
+def weight_colours(weight):
+    return (LIGHT_INK if weight >= 8 else INK), FLOOR[weight]
+
+
+def colours(view, cell, character):
+    """Ink and background of a character of a cell."""
     if cell.mark in ENDS:
         return ENDS[cell.mark]
     if cell.weight == 0:
         return BLOCKED
     if cell.mark == "route":
         return ROUTE
-    ink = DOTS[view.band(cell.cost)] if cell.cost is not None else INK
-    return ink, FLOOR[cell.weight]
+    if cell.cost is None or character.isdigit():
+        return weight_colours(cell.weight)
+    return DOTS[view.band(cell.cost)], FLOOR[cell.weight]
 
 
 def painted(text, pair):
@@ -70,14 +75,15 @@ def painted(text, pair):
 def painted_row(view, row, marks, wide, colour):
     if not colour:
         return "".join(characters(view, cell, marks, wide) for cell in row)
-    parts = []
+    stretches = []
     for cell in row:
-        text, pair = characters(view, cell, marks, wide), colours(view, cell)
-        if parts and parts[-1][1] == pair:
-            parts[-1][0] += text
-        else:
-            parts.append([text, pair])
-    return "".join(painted(text, pair) for text, pair in parts)
+        for character in characters(view, cell, marks, wide):
+            pair = colours(view, cell, character)
+            if stretches and stretches[-1][1] == pair:
+                stretches[-1][0] += character
+            else:
+                stretches.append([character, pair])
+    return "".join(painted(text, pair) for text, pair in stretches)
 
 
 def scale(width, cell_width):
@@ -101,7 +107,7 @@ def legend(view, marks, colour):
     if view.has_blocked():
         floor.append(sample(marks.blocked * 2, BLOCKED) + " blocked")
     if view.weights():
-        floor.append(" ".join(sample(str(weight), (INK, FLOOR[weight])) for weight in view.weights()) + " weight; where none stands, 1")
+        floor.append(" ".join(sample(str(weight), weight_colours(weight)) for weight in view.weights()) + " weight; where none stands, 1")
     if floor:
         lines.append("   ".join(floor))
     if view.settled:
@@ -124,4 +130,7 @@ def picture(view, columns, colour, marks):
         number = str(y) if y % 5 == 0 or view.floor.height <= 10 else ""
         lines.append(f"{number:>{MARGIN - 1}} {marks.down}{painted_row(view, row, marks, wide, colour)}{marks.down}")
     lines.append(" " * MARGIN + marks.corners[2] + edge + marks.corners[3])
-    return lines + legend(view, marks, colour)
+    lines += legend(view, marks, colour)
+    if MARGIN + 2 + width > columns:
+        lines.append(f"the picture needs {MARGIN + 2 + width} columns and the terminal has {columns}: --svg FILE draws it at any size")
+    return lines
