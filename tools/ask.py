@@ -207,7 +207,7 @@ def broken(data, what, fate):
     return [f"the last {what} is broken: it has {left} of {RECORD} bytes, and {fate}"] if left else []
 
 
-def summary(asked, proved, given, different):
+def summary(proved, given, different):
     lines = [f"{words.count(len(proved), 'question')} answered"]
     if given is None:
         return lines
@@ -243,7 +243,7 @@ def replay(given, text):
     lines += broken(questions, "question", "gets no answer")
     if answers is not None:
         lines += broken(answers, "given answer", "is not compared")
-    lines += summary(asked, proved, answers, different)
+    lines += summary(proved, answers, different)
     same = answers is None or (not different and len(answers) == len(answered))
     return lines, ANSWERED if same else DIFFERENT
 
