@@ -95,7 +95,7 @@ def scale(width, cell_width):
     return " " * (MARGIN + 1) + line
 
 
-def legend(view, marks, colour):
+def legend(view, marks, wide, colour):
     def sample(text, pair):
         return painted(text, pair) if colour else text
 
@@ -105,7 +105,7 @@ def legend(view, marks, colour):
     lines = ["   ".join(ends)]
     floor = []
     if view.has_blocked():
-        floor.append(sample(marks.blocked * 2, BLOCKED) + " blocked")
+        floor.append(sample(marks.blocked * (2 if wide else 1), BLOCKED) + " blocked")
     if view.weights():
         floor.append(" ".join(sample(str(weight), weight_colours(weight)) for weight in view.weights()) + " weight; where none stands, 1")
     if floor:
@@ -116,6 +116,8 @@ def legend(view, marks, colour):
             for band, (low, high) in view.bands()
         ]
         lines.append("settled, by cost: " + "   ".join(bands))
+        if view.weights() and not wide:
+            lines.append("where a weight stands there is no room for the dot of a settled cell")
     return [" " * MARGIN + " " + line for line in lines]
 
 
@@ -130,7 +132,7 @@ def picture(view, columns, colour, marks):
         number = str(y) if y % 5 == 0 or view.floor.height <= 10 else ""
         lines.append(f"{number:>{MARGIN - 1}} {marks.down}{painted_row(view, row, marks, wide, colour)}{marks.down}")
     lines.append(" " * MARGIN + marks.corners[2] + edge + marks.corners[3])
-    lines += legend(view, marks, colour)
+    lines += legend(view, marks, wide, colour)
     if MARGIN + 2 + width > columns:
         lines.append(f"the picture needs {MARGIN + 2 + width} columns and the terminal has {columns}: --svg FILE draws it at any size")
     return lines
