@@ -29,15 +29,16 @@ MAP is map text: 'type octile', 'height H', 'width W', 'map', then H rows of W c
 the weight of the cell entered; no corner is cut. x grows east and y south, from 0.
 
 one question
-  The answer is one of: found, with cost and steps and the true length P + Q*sqrt(2) of the route; none; stopped, when
-  the limit of settled cells came before the goal, with the floor below which no route costs; refused, with the reason.
-  The picture shows the floor, the settled cells by cost, and the route; it fits the terminal if that has as many
-  columns as the map.
+  The answer is one of: found, with its cost, steps, and true length P + Q*sqrt(2), where P and Q are the entered weights
+  over straight and over diagonal steps; none; stopped, when the limit of settled cells came before the goal, with the
+  floor: no route to the goal costs less; refused, with the reason. The picture shows the floor, the settled cells by
+  cost, and the route. It needs 6 columns more than the map is wide; where twice the width fits, each cell has its weight
+  beside its mark. For negative numbers write --from=-1,5.
 
 replay
   QUESTIONS holds records of 16 bytes: start, goal and limit (4 bytes each, lowest first, cells as y * width + x), ways
-  (1 byte), three zeros. Each is printed with its answer. ANSWERS holds records of 16 bytes as the planner writes them;
-  each that is not the proved answer is said.
+  (1 byte), three zeros. Each is printed with its answer. The file of --answers holds records of 16 bytes as the planner
+  writes them; each that is not the proved answer is said, with its bytes.
 
 examples
   python3 tools/ask.py examples/halls/furnace.map --from 3,12 --to 43,12
