@@ -223,7 +223,7 @@ def test_svg(folder):
         expect(f"{name}: settled cells drawn", len(dots) == settled and f"{settled} cell" in out, f"{len(dots)} dots, {settled} settled\n{out}")
         lines = picture.findall(f"{SVG}polyline[@class='route']")
         expect(f"{name}: routes drawn", len(lines) == (1 if end in costs else 0))
-        for line in lines:
+        for line in lines if end in costs else []:
             points = [tuple(map(float, point.split(","))) for point in line.get("points").split()]
             visited = [cell_at(width, size, left, top, *point) for point in points]
             direct = [begin]

@@ -48,10 +48,12 @@ def first_route(rows, ways, costs, start, goal):
             if not (0 <= x < width and 0 <= y < len(rows)):
                 continue
             entered = step(rows, ways, x, y, direction)
-            if entered and costs[y * width + x] + entered[2] == costs[cell]:
+            if entered and costs.get(y * width + x, MARK) + entered[2] == costs.get(cell):
                 route.append(direction)
                 cell = y * width + x
                 break
+        else:
+            raise ValueError(f"no route leads to cell {cell}")
     return route[::-1]
 
 
