@@ -52,7 +52,7 @@ exit status
 """
 
 
-def cell_words(text):
+def cell_argument(text):
     """x,y as two numbers; how large they may be is for the map to say."""
     match = re.fullmatch(r"(-?[0-9]{1,40}),(-?[0-9]{1,40})", text)
     if not match:
@@ -60,7 +60,7 @@ def cell_words(text):
     return int(match[1]), int(match[2])
 
 
-def limit_words(text):
+def limit_argument(text):
     if not re.fullmatch(r"[0-9]{1,10}", text) or int(text) > LARGEST:
         raise argparse.ArgumentTypeError(f"the limit is a whole number from 0 to {LARGEST}, not {text!r}")
     return int(text)
@@ -72,10 +72,10 @@ def parser():
         epilog=HELP, formatter_class=argparse.RawDescriptionHelpFormatter, allow_abbrev=False,
     )
     made.add_argument("map", metavar="MAP", help="the hall's floor as map text")
-    made.add_argument("--from", dest="start", metavar="x,y", type=cell_words, help="where the cart stands")
-    made.add_argument("--to", dest="goal", metavar="x,y", type=cell_words, help="where it is to go")
-    made.add_argument("--ways", type=int, choices=(4, 8), default=8, help="directions of a step (8)")
-    made.add_argument("--limit", metavar="n", type=limit_words, default=LARGEST, help="settle at most n cells (no limit)")
+    made.add_argument("--from", dest="start", metavar="x,y", type=cell_argument, help="where the cart stands")
+    made.add_argument("--to", dest="goal", metavar="x,y", type=cell_argument, help="where it is to go")
+    made.add_argument("--ways", type=int, choices=(4, 8), help="directions of a step (8)")
+    made.add_argument("--limit", metavar="n", type=limit_argument, help="settle at most n cells (no limit)")
     made.add_argument("--svg", metavar="FILE", help="write the picture to FILE")
     made.add_argument("--replay", metavar="QUESTIONS", help="answer the question records of a file")
     made.add_argument("--answers", metavar="FILE", help="with --replay: given answers, to be compared")
@@ -86,13 +86,20 @@ def parser():
 
 def check_usage(made, given):
     """Words that do not go together."""
-    if given.replay is None:
-        if given.start is None or given.goal is None:
-            made.error("a question needs --from x,y and --to x,y; a file of questions needs --replay QUESTIONS")
-        if given.answers is not None:
-            made.error("--answers goes with --replay QUESTIONS")
-    elif given.start is not None or given.goal is not None or given.svg is not None:
-        made.error("--replay takes its questions from the file: leave out --from, --to and --svg")
+    if given.replay is not None:
+        if any(word is not None for word in (given.start, given.goal, given.ways, given.limit, given.svg)):
+            made.error("--replay takes its questions from the file: leave out --from, --to, --ways, --limit and --svg")
+        return
+    if given.start is None or given.goal is None:
+        made.error("a question needs --from x,y and --to x,y; a file of questions needs --replay QUESTIONS")
+    if given.answers is not None:
+        made.error("--answers goes with --replay QUESTIONS")
+
+
+def with_defaults(given):
+    given.ways = 8 if given.ways is None else given.ways
+    given.limit = LARGEST if given.limit is None else given.limit
+    return given
 
 
 def in_colour(choice):
@@ -266,7 +273,7 @@ def main():
     check_usage(made, given)
     try:
         text = read_text(given.map)
-        lines, status = ask(given, text) if given.replay is None else replay(given, text)
+        lines, status = ask(with_defaults(given), text) if given.replay is None else replay(given, text)
     except Trouble as trouble:
         print(f"ask.py: {trouble}", file=sys.stderr)
         return USAGE

@@ -152,7 +152,8 @@ def test_usage(folder):
         ([hall, *ends, "--limit", "4294967296"], "a whole number from 0 to 4294967295"),
         ([hall, *ends, "--limit", "ten"], "a whole number from 0 to 4294967295"),
         ([hall, *ends, "--answers", questions], "--answers goes with --replay"),
-        ([hall, *ends, "--replay", questions], "leave out --from, --to and --svg"),
+        ([hall, *ends, "--replay", questions], "leave out --from, --to, --ways, --limit and --svg"),
+        ([hall, "--replay", questions, "--limit", "5"], "leave out --from, --to, --ways, --limit and --svg"),
         ([folder, *ends], "cannot be read: Is a directory"),
         ([Path(folder, "no.map"), *ends], "no.map cannot be read: No such file or directory"),
         ([hall, "--replay", Path(folder, "no.questions")], "the file of questions"),
@@ -184,6 +185,7 @@ def test_start(folder):
     bare = without_rt(folder)
     expect_run(["calls"], 2, [], ["the Rattle kit is missing"], command=start, env=bare)
     expect_run([HALLS / "row.map", "--from", "0,0", "--to", "1,0"], 2, [], ["the Rattle kit is missing", "rt check calls"], env=bare)
+    expect_run([], 2, [], ["the Rattle kit is missing"], command=[shutil.which("bash"), str(ROOT / "run")], env=bare)
     print("tools: a program is started in another folder; no such program, no kit")
 
 
