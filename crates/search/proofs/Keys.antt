@@ -14,7 +14,7 @@ use Rattle.paths.specs.Graph.{MARK}
 use Rattle.paths.specs.Order.{key}
 use Rattle.paths.specs.Cut.{cut}
 use Rattle.paths.proofs.Below.{length-values}
-use Rattle.search.specs.Cuts.{keyBelow}
+use Rattle.search.specs.Cuts.{keyBelow, kept}
 use Rattle.search.proofs.Slices.{slice-snoc, tally-append}
 
 module _ (costs work : List ℕ) (from k : ℕ) where
@@ -40,6 +40,14 @@ module _ (costs work : List ℕ) (from k : ℕ) where
         → keyBelow costs work from (i + 1) k ≡ keyBelow costs work from i k
     unfolding key
     key-below-passed l = rw (more, le-ltb (key costs (getD work (from + i) 0)) k l) (omega arith)
+
+pub kept-below : (cost cell k : ℕ) → cost * 4294967296 + cell < k → kept cost cell k ≡ cost
+unfolding kept
+kept-below cost cell k h = rw (lt-ltb (cost * 4294967296 + cell) k h)
+
+pub kept-above : (cost cell k : ℕ) → k ≤ cost * 4294967296 + cell → kept cost cell k ≡ MARK
+unfolding kept
+kept-above cost cell k h = rw (le-ltb (cost * 4294967296 + cell) k h)
 
 -- what a cell keeps when the costs are cut at k
 abbrev left : List ℕ → ℕ → ℕ → ℕ
@@ -75,12 +83,9 @@ module _ (costs : List ℕ) (k : ℕ) where
     pub cut-at : getD (cutTo costs k i) i 0 ≡ getD costs i 0
     cut-at = rw opened (getD-at (values (left costs k) i) (getD costs i 0) (drop (suc i) costs) 0 i (length-values (left costs k) i))
 
-    -- and keeps it, or loses it
-    pub cut-kept : getD costs i 0 * 4294967296 + i < k → cutTo costs k i ≡ cutTo costs k (i + 1)
-    unfolding key
-    cut-kept l = opened ∙ sym (rw (lt-ltb (getD costs i 0 * 4294967296 + i) k l) at closed)
-
-    pub cut-lost : k ≤ getD costs i 0 * 4294967296 + i → set (cutTo costs k i) i MARK ≡ cutTo costs k (i + 1)
-    unfolding key
-    cut-lost l = rw (opened, set-at (values (left costs k) i) (getD costs i 0) (drop (suc i) costs) MARK i (length-values (left costs k) i))
-        (sym (rw (le-ltb (getD costs i 0 * 4294967296 + i) k l) at closed))
+    -- and is left what it keeps
+    pub cut-next : set (cutTo costs k i) i (kept (getD costs i 0) i k) ≡ cutTo costs k (i + 1)
+    unfolding key kept
+    cut-next =
+        rw (opened, set-at (values (left costs k) i) (getD costs i 0) (drop (suc i) costs) (kept (getD costs i 0) i k) i (length-values (left costs k) i))
+        (sym closed)

@@ -1,8 +1,10 @@
 -- What the functions of the cut need and answer.
+use mathlib.Core.Bool.{cond}
 use mathlib.Core.List.{List}
-use Prim.Native.Nat.{ℕ, suc, _+_, _≤_, _<_}
+use Prim.Native.Nat.{ℕ, suc, _+_, _*_, _≤_, _<_}
 use lib.Dec.{ltb}
 use lib.Seq.{slice}
+use Rattle.paths.specs.Graph.{MARK}
 use Rattle.paths.specs.Order.{key}
 use Rattle.paths.specs.Cut.{tally}
 
@@ -20,3 +22,7 @@ pub record IsNext (costs work : List ℕ) (from len low high place k : ℕ) : Ty
   pub to-high : k < high
   pub before : keyBelow costs work from len k ≤ place
   pub after : place < keyBelow costs work from len (suc k)
+
+-- what a cell with that cost keeps when the costs are cut at k
+unfoldable pub kept : ℕ → ℕ → ℕ → ℕ
+kept cost cell k = cond (ltb (cost * 4294967296 + cell) k) cost MARK

@@ -5,7 +5,7 @@ ghost use lib.ListN.{length};
 ghost use Rattle.paths.specs.Graph.{MARK};
 ghost use Rattle.paths.specs.Cut.{cut};
 ghost use Rattle.search.specs.Bands.{AmongCells};
-ghost use Rattle.search.specs.Cuts.{keyBelow, CanFind, IsNext};
+ghost use Rattle.search.specs.Cuts.{keyBelow, CanFind, IsNext, kept};
 use crate::KEY_BASE;
 use floor::MARK;
 
@@ -62,7 +62,19 @@ pub(crate) fn find_key(
     a
 }
 
+// What a cell keeps when the costs are cut at a key.
+fn kept_cost(cost: u32, cell: usize, key: u64) -> u32
+    requires { ⌜ cell ≤ MARK ⌝ }
+    ensures { λ r. ⌜ r ≡ kept cost cell key ⌝ }
+{
+    if key_of(cost, cell) < key {
+        return cost;
+    }
+    MARK
+}
+
 // The cells from the key on lose their cost: those that were only seen, and those past the goal or the limit.
+// Every cell is stored to, which takes less time than a branch that no machine can foresee.
 pub(crate) fn trim(costs: &mut [u32], key: u64)
     requires { ⌜ length (now costs) ≤ MARK ⌝ }
     ensures { λ r. ⌜ now (costs .exit) ≡ cut (now (costs .entry)) key ⌝ }
@@ -70,9 +82,7 @@ pub(crate) fn trim(costs: &mut [u32], key: u64)
     let mut cell = 0;
     while cell < costs.len() {
         let cost = costs[cell];
-        if key <= key_of(cost, cell) {
-            costs[cell] = MARK;
-        }
+        costs[cell] = kept_cost(cost, cell, key);
         cell += 1;
     }
 }

@@ -1,12 +1,10 @@
 -- The invariant: the costs are cut up to `cell`. The measure is what is left of them.
 use mathlib.Core.Path.{_≡_, sym, _∙_, ap}
-use mathlib.Core.Logic.{⊎-elim}
 use mathlib.Core.List.{List}
 use Prim.Native.Nat.{ℕ, _-_, _≤_, _<_}
 use native.Mathlib.Omega.{arith}
-use lib.ListN.{length, getD, set}
-use Rattle.paths.specs.Graph.{MARK}
-use Rattle.search.proofs.Keys.{cutTo, cut-none, cut-all, length-cut, cut-at, cut-kept, cut-lost}
+use lib.ListN.{length, getD}
+use Rattle.search.proofs.Keys.{cutTo, cut-none, cut-all, length-cut, cut-at, cut-next}
 use Rattle.search.proofs.cuts.trim.Statement.{statement}
 use Rattle.search.proofs.cuts.trim.Tie as tie
 
@@ -30,35 +28,30 @@ mul-cost c = omega (arith, covers (c .before), c .before .before .before .pre)
 slice-read-cost : tie.Need-slice-read-cost Inv-loop μ-loop
 slice-read-cost c = omega arith
 
-key-of-requires : tie.Need-key-of-requires Inv-loop μ-loop
-key-of-requires c κs = omega (arith, covers (c .before .before), c .before .before .before .before .pre)
+kept-cost-requires : tie.Need-kept-cost-requires Inv-loop μ-loop
+kept-cost-requires c κs = omega (arith, covers (c .before .before), c .before .before .before .before .pre)
 
 mul-costs : tie.Need-mul-costs Inv-loop μ-loop
-mul-costs c = omega (arith, covers (c .before .before .before .before), c .before .before .before .before .before .before .pre)
+mul-costs c = omega (arith, covers (c .before .before .before), c .before .before .before .before .before .pre)
 
 slice-write-costs : tie.Need-slice-write-costs Inv-loop μ-loop
 slice-write-costs c = omega arith
 
 add-cell : tie.Need-add-cell Inv-loop μ-loop
-add-cell c = omega (arith, covers (c .before .before .before .before), c .before .before .before .before .before .before .pre)
+add-cell c = omega (arith, covers (c .before .before .before), c .before .before .before .before .before .pre)
 
 loop-less : tie.Need-loop-less Inv-loop μ-loop
-loop-less c = omega (arith, covers (c .before .before .before .before))
+loop-less c = omega (arith, covers (c .before .before .before))
 
 loop-again : tie.Need-loop-again Inv-loop μ-loop
 loop-again c =
-    let at = c .before .before .before .before in
+    let at = c .before .before .before in
     let s = at .before .before in
     let costs = s .args .costs .now in
     let i = at .loop .cell in
     let h : i < length costs = omega (arith, covers at) in
-    let e : getD (at .loop .costs) i 0 ≡ getD costs i 0 = ap (λ (l : List ℕ). getD l i 0) (at .loop .inv .1) ∙ cut-at costs (s .args .key) i h in (
-      omega arith,
-      ⊎-elim
-          (λ w. w .1 ∙ ap (λ (l : List ℕ). set l i MARK) (at .loop .inv .1) ∙ cut-lost costs (s .args .key) i h (omega arith))
-          (λ w. w .1 ∙ at .loop .inv .1 ∙ cut-kept costs (s .args .key) i h (omega arith))
-          (c .if1 .came),
-    )
+    let e : getD (at .loop .costs) i 0 ≡ getD costs i 0 = ap (λ (l : List ℕ). getD l i 0) (at .loop .inv .1) ∙ cut-at costs (s .args .key) i h in
+    (omega arith, rw (at .loop .inv .1, c .kept-cost .ensures, e) (cut-next costs (s .args .key) i h))
 
 same-length : tie.Need-same-length Inv-loop μ-loop
 same-length c = covers (c .before)
@@ -79,7 +72,7 @@ trim-spec =
     loop-holds
     mul-cost
     slice-read-cost
-    key-of-requires
+    kept-cost-requires
     mul-costs
     slice-write-costs
     add-cell
