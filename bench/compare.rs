@@ -1,0 +1,148 @@
+//! Both planners must give the same answer and leave the same in every room.
+
+use crate::floors::{Kind, Random, KINDS};
+use crate::question::{Answer, Question, Rooms};
+use crate::{ordinary, ours, SIDES};
+
+/// What rooms hold before a compared call: nothing that a planner would write, so that what is left untouched shows.
+const OLD_NUMBER: u32 = 123_456_789;
+const OLD_BYTE: u8 = 200;
+
+/// How much longer than needed a room is, so that a write past its part shows.
+const MARGIN: usize = 5;
+
+/// Compares on all floors, on limits that stop a search, on refusals and on small random questions. Gives their number.
+pub fn compare_all() -> Result<usize, String> {
+    let mut count = 0;
+    for kind in KINDS {
+        for side in SIDES {
+            count += compare_floor(kind, side)?;
+        }
+    }
+    for case in refused() {
+        let answer = compare(&case.question, &case.rooms)?;
+        if (answer.kind, answer.refusal, answer.place) != (0, case.refusal, case.place) {
+            return Err(format!("refusal {} at {} expected, not {:?}", case.refusal, case.place, answer));
+        }
+        count += 1;
+    }
+    let mut random = Random(1);
+    for _ in 0..20_000 {
+        let (question, rooms) = random_question(&mut random);
+        compare(&question, &rooms)?;
+        count += 1;
+    }
+    Ok(count)
+}
+
+/// The timed question of a floor, the way back, four ways, and limits about the goal's place and below it.
+fn compare_floor(kind: Kind, side: usize) -> Result<usize, String> {
+    let question = kind.question(side);
+    let rooms = roomy(side * side);
+    let answer = compare(&question, &rooms)?;
+    if answer.kind != 1 {
+        return Err(format!("{} {side}: a route is expected, not {answer:?}", kind.name()));
+    }
+    let settled = answer.settled as u32;
+    let back = Question { start: question.goal, goal: question.start, ..question.clone() };
+    let four = Question { ways: 4, ..question.clone() };
+    let mut variants = vec![back, four];
+    for limit in [0, 1, settled / 2, settled - 1, settled, u32::MAX] {
+        variants.push(Question { limit, ..question.clone() });
+    }
+    for variant in &variants {
+        compare(variant, &rooms)?;
+    }
+    Ok(1 + variants.len())
+}
+
+/// Asks both and compares; gives the answer.
+fn compare(question: &Question, rooms: &Rooms) -> Result<Answer, String> {
+    let mut our_rooms = rooms.clone();
+    let mut their_rooms = rooms.clone();
+    let our_answer = ours::search(question, &mut our_rooms);
+    let their_answer = ordinary::search(question, &mut their_rooms);
+    let what = if our_answer != their_answer {
+        "answers"
+    } else if our_rooms.costs != their_rooms.costs {
+        "costs"
+    } else if our_rooms.work != their_rooms.work {
+        "work rooms"
+    } else if our_rooms.route != their_rooms.route {
+        "routes"
+    } else {
+        return Ok(our_answer);
+    };
+    Err(format!("{what} differ: ours {our_answer:?}, the ordinary one's {their_answer:?}, of {question:?}"))
+}
+
+fn roomy(cells: usize) -> Rooms {
+    let mut rooms = Rooms::with_lengths(cells + MARGIN, 2 * cells + MARGIN, cells + MARGIN);
+    rooms.fill(OLD_NUMBER, OLD_BYTE);
+    rooms
+}
+
+struct Refused {
+    refusal: u64,
+    place: u64,
+    question: Question,
+    rooms: Rooms,
+}
+
+/// A question for each refusal, with a later fault in it too wherever one fits, so that the order shows.
+fn refused() -> Vec<Refused> {
+    let sound = Question { width: 3, height: 2, ways: 8, map: vec![1, 0, 1, 1, 1, 1], start: 0, goal: 2, limit: 6 };
+    let with = |refusal, place, question, lengths: (usize, usize, usize)| {
+        let mut rooms = Rooms::with_lengths(lengths.0, lengths.1, lengths.2);
+        rooms.fill(OLD_NUMBER, OLD_BYTE);
+        Refused { refusal, place, question, rooms }
+    };
+    let (enough, nothing) = ((6, 12, 6), (0, 0, 0));
+    let weighty = vec![1, 0, 1, 10, 255, 1];
+    let twice_blocked = vec![0, 0, 0, 1, 1, 1];
+    vec![
+        with(1, 0, Question { width: 0, ..sound.clone() }, enough),
+        with(1, 0, Question { height: 257, map: vec![10; 3 * 257], ..sound.clone() }, nothing),
+        with(1, 0, Question { width: u32::MAX, height: u32::MAX, ..sound.clone() }, nothing),
+        with(2, 0, Question { map: vec![10; 7], ..sound.clone() }, nothing),
+        with(2, 0, Question { map: vec![], ..sound.clone() }, nothing),
+        with(3, 3, Question { map: weighty, ways: 5, ..sound.clone() }, nothing),
+        with(4, 0, Question { ways: 6, start: 6, ..sound.clone() }, nothing),
+        with(5, 0, Question { start: 6, goal: 6, ..sound.clone() }, nothing),
+        with(6, 0, Question { start: 1, goal: u32::MAX, ..sound.clone() }, nothing),
+        with(7, 0, Question { map: twice_blocked, ..sound.clone() }, nothing),
+        with(8, 0, Question { goal: 1, ..sound.clone() }, nothing),
+        with(9, 0, sound.clone(), (5, 11, 5)),
+        with(10, 0, sound.clone(), (6, 11, 5)),
+        with(11, 0, sound, (6, 12, 5)),
+    ]
+}
+
+/// A small floor with any share of blocked cells. One in eight questions may be refused.
+fn random_question(random: &mut Random) -> (Question, Rooms) {
+    let width = 1 + random.below(12);
+    let height = 1 + random.below(12);
+    let cells = width * height;
+    let blocked = random.below(6);
+    let greatest = 1 + random.below(9);
+    let mut map: Vec<u8> =
+        (0..cells).map(|_| if random.below(10) < blocked { 0 } else { 1 + random.below(greatest) as u8 }).collect();
+    let mut ways = 4 + 4 * random.below(2);
+    let (mut start, mut goal) = (random.below(cells), random.below(cells));
+    let mut rooms = roomy(cells as usize);
+    if random.below(8) == 0 {
+        match random.below(6) {
+            0 => map[start as usize] = 10,
+            1 => ways = random.below(10),
+            2 => start = random.below(2 * cells),
+            3 => goal = random.below(2 * cells),
+            4 => rooms.costs.truncate(random.below(cells + 1) as usize),
+            _ => rooms.work.truncate(random.below(2 * cells + 1) as usize),
+        }
+    } else {
+        map[start as usize] = 1;
+        map[goal as usize] = 1;
+    }
+    let limit = random.below(2 * cells);
+    (Question { width, height, ways, map, start, goal, limit }, rooms)
+}

@@ -1,0 +1,150 @@
+//! Compares the proved search with an ordinary planner, then times both: bench/README.md.
+//!
+//!     bench            compares, then prints the table of times
+//!     bench --check    compares
+
+mod clock;
+mod compare;
+mod floors;
+mod ordinary;
+mod ours;
+mod question;
+
+use floors::{Kind, KINDS};
+use question::{Answer, Question, Rooms};
+use std::process::ExitCode;
+use std::time::Duration;
+
+pub const SIDES: [usize; 3] = [64, 128, 256];
+
+/// How often each planner is run on each floor; the least time counts.
+const RUNS: usize = 51;
+
+/// Runs of each planner before the timed ones, so that neither is the first to touch its rooms and its code.
+const WARM_UPS: usize = 3;
+
+fn main() -> ExitCode {
+    let check_only = std::env::args().skip(1).any(|word| word == "--check");
+    match compare::compare_all() {
+        Err(difference) => {
+            eprintln!("bench: {difference}");
+            return ExitCode::FAILURE;
+        }
+        Ok(count) => println!("answers, costs, work rooms and routes are the same on {count} questions"),
+    }
+    if !check_only {
+        print_times();
+    }
+    ExitCode::SUCCESS
+}
+
+/// One floor's times.
+struct Timed {
+    kind: Kind,
+    side: usize,
+    settled: u64,
+    ours: Duration,
+    ordinary: Duration,
+}
+
+impl Timed {
+    fn ratio(&self) -> f64 {
+        self.ours.as_secs_f64() / self.ordinary.as_secs_f64()
+    }
+
+    fn per_cell(&self, time: Duration) -> f64 {
+        time.as_secs_f64() * 1e9 / self.settled as f64
+    }
+}
+
+fn print_times() {
+    let mut times = Vec::new();
+    for kind in KINDS {
+        for side in SIDES {
+            times.push(time_floor(kind, side));
+        }
+    }
+    println!("processor time, the least of {RUNS} runs of each, in turn; all rooms cleared before each run, outside the time\n");
+    print_floors(&times);
+    println!("\nns per settled cell, by side\n");
+    print_growth(&times);
+}
+
+fn time_floor(kind: Kind, side: usize) -> Timed {
+    let question = kind.question(side);
+    let mut our_rooms = Rooms::for_cells(side * side);
+    let mut their_rooms = our_rooms.clone();
+    let mut timed = Timed { kind, side, settled: 0, ours: Duration::MAX, ordinary: Duration::MAX };
+    for run in 0..WARM_UPS + RUNS {
+        let (our_time, our_answer) = time_call(ours::search, &question, &mut our_rooms);
+        let (their_time, their_answer) = time_call(ordinary::search, &question, &mut their_rooms);
+        assert_eq!(our_answer, their_answer);
+        timed.settled = our_answer.settled;
+        if run >= WARM_UPS {
+            timed.ours = timed.ours.min(our_time);
+            timed.ordinary = timed.ordinary.min(their_time);
+        }
+    }
+    timed
+}
+
+/// Not inlined: both planners are called through a pointer, in the same way.
+#[inline(never)]
+fn time_call(search: fn(&Question, &mut Rooms) -> Answer, question: &Question, rooms: &mut Rooms) -> (Duration, Answer) {
+    rooms.fill(0, 0);
+    let begun = clock::now();
+    let answer = search(question, rooms);
+    (clock::now() - begun, answer)
+}
+
+/// The greatest ratio aimed at on a floor of the greatest side.
+fn aim(kind: Kind, side: usize) -> Option<f64> {
+    match kind {
+        _ if side != 256 => None,
+        Kind::Empty | Kind::ThirdBlocked => Some(0.8),
+        Kind::Maze | Kind::MazeToCorner => Some(1.3),
+        Kind::Weights => None,
+    }
+}
+
+fn print_floors(times: &[Timed]) {
+    println!("| floor | side | settled | ours ms | ordinary ms | ratio | aim | ours ns/cell | ordinary ns/cell |");
+    println!("|---|---|---|---|---|---|---|---|---|");
+    for t in times {
+        let aim = match aim(t.kind, t.side) {
+            None => String::new(),
+            Some(most) if t.ratio() <= most => format!("{most:.1}, reached"),
+            Some(most) => format!("{most:.1}, missed"),
+        };
+        println!(
+            "| {} | {} | {} | {:.3} | {:.3} | {:.2} | {} | {:.1} | {:.1} |",
+            t.kind.name(),
+            t.side,
+            t.settled,
+            t.ours.as_secs_f64() * 1e3,
+            t.ordinary.as_secs_f64() * 1e3,
+            t.ratio(),
+            aim,
+            t.per_cell(t.ours),
+            t.per_cell(t.ordinary)
+        );
+    }
+}
+
+fn print_growth(times: &[Timed]) {
+    println!("| floor | ours 64 | 128 | 256 | 256 over 64 | ordinary 64 | 128 | 256 | 256 over 64 |");
+    println!("|---|---|---|---|---|---|---|---|---|");
+    for of_kind in times.chunks(SIDES.len()) {
+        println!(
+            "| {} | {} | {} |",
+            of_kind[0].kind.name(),
+            growth(of_kind.iter().map(|t| t.per_cell(t.ours)).collect()),
+            growth(of_kind.iter().map(|t| t.per_cell(t.ordinary)).collect())
+        );
+    }
+}
+
+fn growth(per_cell: Vec<f64>) -> String {
+    let times: Vec<String> = per_cell.iter().map(|ns| format!("{ns:.1}")).collect();
+    format!("{} | {:.2}", times.join(" | "), per_cell[per_cell.len() - 1] / per_cell[0])
+}

@@ -1,0 +1,52 @@
+//! The proved search, `fradnumber_search` of include/fradnumber.h. Nothing checks this declaration against the header.
+
+use crate::question::{Answer, Question, Rooms};
+
+extern "C" {
+    // In the header the answer is what the call returns. On x86-64 a struct of this size is returned through a pointer that
+    // is passed before all else and given back; in the library's LLVM module that pointer is an ordinary parameter, and it
+    // stays one when the module is compiled for another machine. So it is declared as one, which is the same call on x86-64.
+    fn fradnumber_search(
+        answer: *mut Answer,
+        width: u32,
+        height: u32,
+        ways: u32,
+        map: *const u8,
+        map_length: usize,
+        start: u32,
+        goal: u32,
+        limit: u32,
+        costs: *mut u32,
+        costs_length: usize,
+        work: *mut u32,
+        work_length: usize,
+        route: *mut u8,
+        route_length: usize,
+    ) -> *mut Answer;
+}
+
+/// The search has no conditions: any numbers and any lengths may be passed.
+pub fn search(question: &Question, rooms: &mut Rooms) -> Answer {
+    let mut answer = Answer::default();
+    // Safe: each pointer and its length are those of one slice, and the slices do not overlap.
+    unsafe {
+        fradnumber_search(
+            &mut answer,
+            question.width,
+            question.height,
+            question.ways,
+            question.map.as_ptr(),
+            question.map.len(),
+            question.start,
+            question.goal,
+            question.limit,
+            rooms.costs.as_mut_ptr(),
+            rooms.costs.len(),
+            rooms.work.as_mut_ptr(),
+            rooms.work.len(),
+            rooms.route.as_mut_ptr(),
+            rooms.route.len(),
+        );
+    }
+    answer
+}
