@@ -11,6 +11,9 @@ const OLD_BYTE: u8 = 200;
 /// How much longer than needed a room is, so that a write past its part shows.
 const MARGIN: usize = 5;
 
+/// A map of more cells is not printed.
+const SMALL_MAP: usize = 144;
+
 /// Compares on all floors, on limits that stop a search, on refusals and on small random questions. Gives their number.
 pub fn compare_all() -> Result<usize, String> {
     let mut count = 0;
@@ -73,7 +76,16 @@ fn compare(question: &Question, rooms: &Rooms) -> Result<Answer, String> {
     } else {
         return Ok(our_answer);
     };
-    Err(format!("{what} differ: ours {our_answer:?}, the ordinary one's {their_answer:?}, of {question:?}"))
+    Err(format!("{what} differ: ours {our_answer:?}, the ordinary one's {their_answer:?}, of {}", in_words(question)))
+}
+
+/// A question, with its map if that is small enough to read.
+fn in_words(question: &Question) -> String {
+    if question.map.len() <= SMALL_MAP {
+        return format!("{question:?}");
+    }
+    let Question { width, height, ways, start, goal, limit, .. } = question;
+    format!("the floor of {width} x {height} cells, {ways} ways, {start} to {goal}, limit {limit}")
 }
 
 fn roomy(cells: usize) -> Rooms {
