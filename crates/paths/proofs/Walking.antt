@@ -5,7 +5,7 @@ use mathlib.Core.List.{List, [], _∷_, _++_, append-assoc, append-nil, reverse}
 use Prim.Native.Nat.{ℕ, zero, suc, _+_, _≤_, _<_}
 use native.Mathlib.Omega.{arith}
 use borrow.Author.Tests.{eq-eqb, ne-eqb}
-use lib.ListN.{length, getD, length-append, length-reverse}
+use lib.ListN.{length, getD, length-append}
 use Rattle.paths.specs.Graph.{Graph, Lawful, MARK}
 use Rattle.paths.specs.Table.{Right}
 use Rattle.paths.specs.First.{lastStep, backward, firstRoute}
@@ -97,10 +97,3 @@ module _ {g : Graph} {s goal : ℕ} {costs : List ℕ} where
     pub walking-ends : v ≡ s → firstRoute g s costs goal ≡ reverse ds
     unfolding firstRoute
     walking-ends e = ap reverse (w .whole ∙ ap (λ (l : List ℕ). ds ++ l) (backward-stays g s costs (w .fuel) v e) ∙ append-nil ds)
-
-    -- no more steps than the route has are walked
-    pub walking-length : length ds ≤ length (firstRoute g s costs goal)
-    unfolding firstRoute
-    walking-length =
-        let b = backward g s costs (g .cells) goal in
-        omega (arith, length-reverse b, ap length (w .whole), length-append ds (backward g s costs (w .fuel) v))

@@ -1,6 +1,5 @@
 -- The last band as the promise asks: what the calls of the last band need, and their answers as rows of 01's table.
 use mathlib.Core.Path.{_≡_, sym, _∙_, ap, subst}
-use mathlib.Core.Logic.{_≢_}
 use mathlib.Core.Bool.{not, _&&_}
 use mathlib.Core.List.{List, _++_}
 use Prim.Native.Nat.{ℕ, suc, _+_, _-_, _*_, _≤_, _<_}
@@ -14,9 +13,7 @@ use Rattle.paths.specs.Order.{key}
 use Rattle.paths.specs.Answer as row
 use Rattle.paths.specs.Answer.{costsLeft}
 use Rattle.paths.specs.Cut.{cheaperThan, Agree}
-use Rattle.paths.proofs.Answers.{first-same}
 use Rattle.paths.proofs.Cuts.{wave-agrees, key-to, place-rank, place-early}
-use Rattle.paths.proofs.Firsts.{first-cost, first-route, least-short}
 use Rattle.floor.specs.declared.Floor.{Floor}
 use Rattle.floor.specs.Place.{cells}
 use Rattle.floor.specs.Step.{leastStep, graph}
@@ -33,17 +30,6 @@ use Rattle.search.proofs.Fronts.{low-room, low-rises, next-wave, next-c
 use Rattle.search.proofs.Tables.{cheaper-most}
 use Rattle.search.proofs.Ranks.{rank-bound, can-find}
 use Rattle.search.proofs.Finishing.{table, right, row-none, left-all, goal-rank, row-found, left-goal, row-stopped, left-limit}
-
--- the first route has fewer steps than there are cells
-pub short-route : {f : Floor} {m : List ℕ} {s goal : ℕ} {costs : List ℕ} → CanWalk f m s goal costs → length (firstRoute (graph f m) s costs goal) < cells f
-short-route {f} {m} {s} {goal} {costs} w =
-    let law = lawful f m (w .passed) in
-    let e = w .agrees .there goal (omega (arith, w .right .covers, w .inside)) (w .below) in
-    let k : getD (w .t) goal 0 ≢ MARK = omega (arith, w .top, w .below) in
-    let r = first-route law s (w .t) (w .starts) (w .right) goal (w .inside) k .route in
-    let c = first-cost law s (w .t) (w .starts) (w .right) goal (w .inside) k in
-    let n = least-short law s (w .t) (w .starts) (w .right) goal (w .inside) (firstRoute (graph f m) s (w .t) goal) r c in
-    omega (arith, n, ap length (first-same law s (w .starts) (w .t) (w .right) costs (w .bound) (w .agrees) (w .top) goal (w .inside) (omega (arith, w .below))))
 
 module _ {f : Floor} {m : List ℕ} {q : Question} {costs work route : List ℕ} {b : Band} (c : CanFinish f m q costs work route b) where
   abbrev r : Rounds f m (q .start) (q .goal) (q .limit) costs work b

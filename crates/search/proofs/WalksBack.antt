@@ -1,16 +1,18 @@
--- The walk back on a floor: `last_step` takes the step that the walk over the graph takes, and the route is written from its end.
-use mathlib.Core.Path.{_≡_, _∙_, ap}
+-- The walk back on a floor: `last_step` takes the step that the walk over the graph takes, and the route is written backwards.
+use mathlib.Core.Path.{_≡_, sym, _∙_, ap}
 use mathlib.Core.Logic.{_≢_}
-use mathlib.Core.List.{List, [], _∷_, _++_, append-assoc, reverse}
-use Prim.Native.Nat.{ℕ, suc, _+_, _<_}
+use mathlib.Core.List.{List, [], _∷_, _++_, append-assoc, reverse, reverse-reverse}
+use Prim.Native.Nat.{ℕ, suc, _+_, _≤_, _<_}
 use native.Mathlib.Omega.{arith}
-use lib.ListN.{length, getD, set, take, drop, length-append}
-use lib.Seq.{take-suc, length-take-le, set-at}
+use native.Mathlib.Numerals.{add-one}
+use lib.ListN.{length, getD, set, take, drop, length-append, length-reverse}
+use lib.Seq.{drop-cons, set-at, take-append-seam, drop-append-seam}
+use Rattle.bytes.specs.Bytes.{rev, slice}
 use Rattle.paths.specs.Graph.{MARK}
-use Rattle.paths.specs.First.{lastStep, firstRoute}
-use Rattle.paths.proofs.Firsts.{reverse-snoc}
-use Rattle.paths.proofs.Walking.{Walking, walking-begins, walking-goes, walking-length}
+use Rattle.paths.specs.First.{lastStep}
+use Rattle.paths.proofs.Walking.{Walking, walking-begins, walking-goes}
 use Rattle.floor.specs.declared.Floor.{Floor}
+use Rattle.floor.specs.Place.{cells}
 use Rattle.floor.specs.Step.{graph}
 use Rattle.floor.proofs.Laws.{lawful}
 use Rattle.search.specs.declared.Back.{Back}
@@ -21,7 +23,7 @@ pub record WalksOn (f : Floor) (m : List ℕ) (s goal : ℕ) (costs : List ℕ) 
   pub next : Walking (graph f m) s goal costs (r .from) (ds ++ (r .direction ∷ []))
   pub less : getD costs (r .from) 0 < getD costs v 0
   pub small : r .direction < 8
-  pub within : length ds < length (firstRoute (graph f m) s costs goal)
+  pub inside : length ds < cells f
   pub few : length ds < MARK
 
 module _ {f : Floor} {m : List ℕ} {s goal : ℕ} {costs : List ℕ} (can : CanWalk f m s goal costs) where
@@ -44,21 +46,36 @@ module _ {f : Floor} {m : List ℕ} {s goal : ℕ} {costs : List ℕ} (can : Can
           next = rw (l .direction, from) (x .next);
           less = rw from (x .less);
           small = small;
-          within = omega (arith, walking-length (x .next), length-append ds (d ∷ []));
+          inside = omega (arith, w .fits, w .enough);
           few = omega (arith, w .fits, w .enough, law .cells-fit);
         }
 
--- the walk from the goal back to v has written its steps into a route's room, up to place `steps` and from place i on
-pub record Writing (f : Floor) (m : List ℕ) (s goal : ℕ) (costs : List ℕ) (steps : ℕ) (room route : List ℕ) (v i : ℕ) : Type 0 where
+-- the walk from the goal back to v has written its n steps into a route's room
+pub record Writing (f : Floor) (m : List ℕ) (s goal : ℕ) (costs room route : List ℕ) (v n : ℕ) : Type 0 where
   pub ds : List ℕ
-  pub counted : length ds + i ≡ steps
+  pub counted : length ds ≡ n
   pub walking : Walking (graph f m) s goal costs v ds
-  pub written : route ≡ take i room ++ (reverse ds ++ drop steps room)
+  pub written : route ≡ ds ++ drop n room
   pub same-length : length route ≡ length room
 
--- a direction is written before those that are written already
-pub write-one : (room ds rest : List ℕ) (i j d : ℕ) → i ≡ suc j → j < length room
-    → set (take i room ++ (reverse ds ++ rest)) j d ≡ take j room ++ (reverse (ds ++ (d ∷ [])) ++ rest)
-write-one room ds rest i j d e h =
-    rw (e, take-suc room j 0 h, append-assoc (take j room) (getD room j 0 ∷ []) (reverse ds ++ rest), reverse-snoc ds d)
-    (set-at (take j room) (getD room j 0) (reverse ds ++ rest) d j (length-take-le j room (omega arith)))
+-- a direction is written after those that are written already
+pub write-one : (room ds : List ℕ) (n d : ℕ) → length ds ≡ n → n < length room → set (ds ++ drop n room) n d ≡ (ds ++ (d ∷ [])) ++ drop (n + 1) room
+write-one room ds n d e h =
+    rw (drop-cons room n 0 h, set-at ds (getD room n 0) (drop (suc n) room) d n e, add-one) (sym (append-assoc ds (d ∷ []) (drop (suc n) room)))
+
+-- what was written backwards has room in the room
+pub back-fits : (ds room back : List ℕ) (n : ℕ) → n ≡ length ds → back ≡ reverse ds ++ drop n room → n ≤ length back
+back-fits ds room back n e w = omega (arith, ap length w, length-append (reverse ds) (drop n room), length-reverse ds)
+
+parts : (xs ys : List ℕ) (n : ℕ) → length xs ≡ n → (take n (xs ++ ys) ≡ xs) × (drop n (xs ++ ys) ≡ ys)
+parts xs ys n e = rw (← e) (take-append-seam xs ys, drop-append-seam xs ys)
+
+-- what was written backwards, turned round, is the route
+pub turned-round : (ds room back route : List ℕ) (n : ℕ) → n ≡ length ds → back ≡ reverse ds ++ drop n room
+    → route ≡ take 0 back ++ (rev (slice 0 n back) ++ drop n back) → route ≡ ds ++ drop n room
+unfolding rev slice
+turned-round ds room back route n e w r =
+    let p = parts (reverse ds) (drop n room) n (length-reverse ds ∙ sym e) in
+    let t : take n back ≡ reverse ds = ap (take n) w ∙ p .0 in
+    let d : drop n back ≡ drop n room = ap (drop n) w ∙ p .1 in
+    r ∙ rw (t, d, reverse-reverse ds)

@@ -8,7 +8,6 @@ use crate::cuts::count_before;
 use crate::cuts::find_key;
 use crate::cuts::key_of;
 use crate::cuts::trim;
-use crate::walks::count_steps;
 use crate::walks::write_route;
 use floor::Floor;
 
@@ -44,8 +43,7 @@ fn arrive(
     ensures { λ r. ⌜ Arrived f (now (map .entry)) start goal place (now (costs .entry)) (now (route .entry)) r (now (costs .exit)) (now (route .exit)) ⌝ }
 {
     let cost = costs[goal];
-    let steps = count_steps(f, map, costs, start, goal);
-    write_route(f, map, costs, start, goal, steps, route);
+    let steps = write_route(f, map, costs, start, goal, route);
     trim(costs, key_of(cost, goal) + 1);
     Answer::Found(place + 1, cost, steps)
 }

@@ -1,9 +1,10 @@
 // The walk back from the goal: at each cell the step into it that gives it its cost, the lowest direction first. That is the first of the least-cost routes.
 ghost use mathlib.Core.Path.{_≡_};
-ghost use mathlib.Core.List.{_++_};
+ghost use mathlib.Core.List.{_++_, reverse};
 ghost use Prim.Native.Nat.{_≤_};
 ghost use lib.ListN.{length, drop};
 ghost use Rattle.paths.specs.First.{firstRoute};
+ghost use Rattle.floor.specs.Place.{cells};
 ghost use Rattle.floor.specs.Step.{graph};
 ghost use Rattle.search.specs.Walks.{HasCosts, Gives, IsLast, CanWalk};
 use crate::Back;
@@ -50,43 +51,45 @@ fn last_step(f: Floor, map: &[u8], costs: &[u32], cell: usize) -> Back
     }
 }
 
-// How many steps the route to the goal has.
-pub(crate) fn count_steps(f: Floor, map: &[u8], costs: &[u32], start: usize, goal: usize) -> usize
-    requires { ⌜ CanWalk f (now map) start goal (now costs) ⌝ }
-    ensures { λ r. ⌜ r ≡ length (firstRoute (graph f (now (map .entry))) start (now (costs .entry)) goal) ⌝ }
+// Writes the route's directions, the last one first, as the walk meets them, and gives their number.
+fn write_back(
+    f: Floor,
+    map: &[u8],
+    costs: &[u32],
+    start: usize,
+    goal: usize,
+    route: &mut [u8],
+) -> usize
+    requires { ⌜ CanWalk f (now map) start goal (now costs) × (cells f ≤ length (now route)) ⌝ }
+    ensures steps { λ r. ⌜ r ≡ length (firstRoute (graph f (now (map .entry))) start (now (costs .entry)) goal) ⌝ }
+    ensures written { λ r. ⌜ now (route .exit) ≡ reverse (firstRoute (graph f (now (map .entry))) start (now (costs .entry)) goal) ++ drop r (now (route .entry)) ⌝ }
 {
     let mut cell = goal;
     let mut n = 0;
     while cell != start {
         let step = last_step(f, map, costs, cell);
+        let direction = step.direction;
+        route[n] = direction as u8;
         cell = step.from;
         n += 1;
     }
     n
 }
 
-// Writes the route's `steps` directions, the last one first: the walk meets them in that order.
+// Writes the first route, from the start onwards, and gives its length. One walk does: what it wrote is turned round.
 pub(crate) fn write_route(
     f: Floor,
     map: &[u8],
     costs: &[u32],
     start: usize,
     goal: usize,
-    steps: usize,
     route: &mut [u8],
-)
-    requires { ⌜ CanWalk f (now map) start goal (now costs) ⌝ }
-    requires { ⌜ steps ≡ length (firstRoute (graph f (now map)) start (now costs) goal) ⌝ }
-    requires { ⌜ steps ≤ length (now route) ⌝ }
-    ensures { λ r. ⌜ now (route .exit) ≡ firstRoute (graph f (now (map .entry))) start (now (costs .entry)) goal ++ drop steps (now (route .entry)) ⌝ }
+) -> usize
+    requires { ⌜ CanWalk f (now map) start goal (now costs) × (cells f ≤ length (now route)) ⌝ }
+    ensures steps { λ r. ⌜ r ≡ length (firstRoute (graph f (now (map .entry))) start (now (costs .entry)) goal) ⌝ }
+    ensures written { λ r. ⌜ now (route .exit) ≡ firstRoute (graph f (now (map .entry))) start (now (costs .entry)) goal ++ drop r (now (route .entry)) ⌝ }
 {
-    let mut cell = goal;
-    let mut i = steps;
-    while cell != start {
-        let step = last_step(f, map, costs, cell);
-        i -= 1;
-        let direction = step.direction;
-        route[i] = direction as u8;
-        cell = step.from;
-    }
+    let n = write_back(f, map, costs, start, goal, route);
+    bytes::reverse(route, 0, n);
+    n
 }

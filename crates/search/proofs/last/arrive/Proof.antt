@@ -1,11 +1,10 @@
--- The four calls in a row: the route has fewer steps than there are cells, so that it fits, and the key after the goal's fits 64 bits.
+-- The three calls in a row; the key after the goal's fits 64 bits.
 use mathlib.Core.Path.{_∙_}
 use native.Mathlib.Numerals.{add-one}
 use native.Mathlib.Omega.{arith}
 use borrow.Author.Needs.{needs}
 use Rattle.paths.specs.Order.{key}
 use Rattle.floor.proofs.Laws.{lawful}
-use Rattle.search.proofs.Answering.{short-route}
 use Rattle.search.proofs.last.arrive.Statement.{statement}
 use Rattle.search.proofs.last.arrive.Tie as tie
 
@@ -15,28 +14,22 @@ mul-cost c = search needs
 slice-read-cost : tie.Need-slice-read-cost
 slice-read-cost c = search needs
 
-count-steps-requires : tie.Need-count-steps-requires
-count-steps-requires c κs = search needs
-
 write-route-requires : tie.Need-write-route-requires
-write-route-requires c κs =
-    let n = c .before .before in
-    let s = n .before .before .before .before .before .before in
-    (s .pre .walk, (n .count-steps .ensures, omega (arith, n .count-steps .ensures, short-route (s .pre .walk), s .pre .room)))
+write-route-requires c κs = let s = c .before .before .before .before .before .before in (s .pre .walk, s .pre .room)
 
 key-of-requires : tie.Need-key-of-requires
 key-of-requires c κs =
-    let s = c .before .before .before .before .before .before .before .before .before .before .before .before in
+    let s = c .before .before .before .before .before .before .before .before .before .before in
     omega (arith, s .pre .walk .inside, lawful (s .args .f) (s .args .map .now) (s .pre .walk .passed) .cells-fit)
 
 add-trim : tie.Need-add-trim
 add-trim c =
-    let s = c .before .before .before .before .before .before .before .before .before .before .before .before .before in
+    let s = c .before .before .before .before .before .before .before .before .before .before .before in
     omega (arith, c .key-of .ensures, s .pre .walk .below, s .pre .walk .top, s .pre .walk .inside, lawful (s .args .f) (s .args .map .now) (s .pre .walk .passed) .cells-fit)
 
 trim-requires : tie.Need-trim-requires
 trim-requires c κs =
-    let s = c .before .before .before .before .before .before .before .before .before .before .before .before .before in
+    let s = c .before .before .before .before .before .before .before .before .before .before .before in
     omega (arith, s .pre .covers, lawful (s .args .f) (s .args .map .now) (s .pre .walk .passed) .cells-fit)
 
 add-t10 : tie.Need-add-t10
@@ -53,12 +46,11 @@ unfolding key
 returns c =
     let t = c .before .before in
     let k = t .before in
-    let n = k .before .before .before .before .before .before .before in
-    let w = k .before .before .before .before in
+    let w = k .before .before .before .before .write-route in
     record {
-      answer = rw (add-one, n .count-steps .ensures);
+      answer = rw (add-one, w .ensures .0);
       left = t .trim .ensures ∙ rw (k .key-of .ensures, add-one);
-      written = w .write-route .ensures ∙ rw (n .count-steps .ensures);
+      written = w .ensures .1 ∙ rw (w .ensures .0);
     }
 
 pub arrive-spec : {M : Type 1} → statement M
@@ -67,7 +59,6 @@ arrive-spec =
     (tie.spec
     mul-cost
     slice-read-cost
-    count-steps-requires
     write-route-requires
     key-of-requires
     add-trim
