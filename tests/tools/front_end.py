@@ -284,6 +284,13 @@ def test_story():
     print("tools: forty warm cells: the numbers of examples/halls/README.md")
 
 
+def test_stored_picture(folder):
+    """The picture that README.md shows is what the front end draws."""
+    drawn = Path(folder, "furnace.svg")
+    expect_run([HALLS / "furnace.map", "--from", "3,12", "--to", "43,12", "--quiet", "--svg", drawn], 0, ["the picture is in"])
+    expect("examples/halls/furnace.svg", drawn.read_bytes() == (HALLS / "furnace.svg").read_bytes())
+
+
 def altered(answers, offset):
     return answers[:offset] + bytes([answers[offset] ^ 1]) + answers[offset + 1 :]
 
@@ -340,6 +347,7 @@ def main():
         test_terminal_picture()
         test_halls(folder)
         test_story()
+        test_stored_picture(folder)
         test_replay(folder)
         test_run(folder)
     print(f"tools: {len(wrong)} wrong, in {time.monotonic() - began:.0f} seconds")
