@@ -4,11 +4,11 @@ use mathlib.Core.List.{List}
 use Prim.Native.Nat.{ℕ, _≤_, _<_}
 use native.Mathlib.Omega.{arith}
 use native.Mathlib.Decide.{ℕ-discrete}
-use borrow.Author.Tests.{lt-ltb, le-ltb, eq-eqb}
+use borrow.Author.Tests.{lt-ltb, le-ltb}
 use lib.Dec.{ltb, ltb→lt, nltb→le}
 use lib.ListN.{getD}
 use Rattle.paths.proofs.Bools.{not-eqb-ne, ne-not-eqb, by-cond}
-use Rattle.paths.proofs.Below.{Lowest, lowest-is, lowest-found}
+use Rattle.paths.proofs.Below.{Lowest, lowest-is, lowest-none, lowest-found}
 use Rattle.floor.specs.declared.Floor.{Floor}
 use Rattle.floor.specs.declared.Screen.{Screen}
 use Rattle.floor.specs.declared.Screen.the-variants.{Passed}
@@ -17,7 +17,6 @@ use Rattle.floor.specs.Refusal.{screen}
 use Rattle.claims.specs.declared.TableVerdict.{TableVerdict}
 use Rattle.claims.specs.declared.TableVerdict.the-variants.{Breaks}
 use Rattle.claims.specs.Table.{tableLines, owed, breaks, IsLowest, breaking, judged, tableVerdict}
-use Rattle.claims.proofs.Keeping.{none-lowest}
 
 module _ (f : Floor) (m : List ℕ) (s : ℕ) (t : List ℕ) where
   abbrev tested : Screen
@@ -81,7 +80,7 @@ module _ (f : Floor) (m : List ℕ) (s : ℕ) (t : List ℕ) where
   found : (b : ℕ) → IsLowest f m s t b → breaking f m s t ≡ b
   unfolding breaking breaks
   found b x =
-      lowest-found (breaks f m s t) b (cells f) (none-lowest (breaks f m s t) b (λ v h. rw (eq-eqb _ _ (x .lowest v h)) tt)) (ne-not-eqb _ _ (x .breaks)) (x .inside)
+      lowest-found (breaks f m s t) b (cells f) (lowest-none (breaks f m s t) b (λ v h k. not-eqb-ne _ _ k (x .lowest v h))) (ne-not-eqb _ _ (x .breaks)) (x .inside)
 
   pub lowest-breaks : (b : ℕ) → tested ≡ Passed → IsLowest f m s t b → tableVerdict f m s t ≡ Breaks b
   unfolding tableVerdict

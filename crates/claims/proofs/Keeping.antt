@@ -1,21 +1,19 @@
 -- The rule of the table check is the rule of the theory: no step comes into a blocked cell, and no step leaves a cell past the first width × height entries.
 use mathlib.Core.Path.{_≡_, refl, sym, _∙_, ap}
 use mathlib.Core.Logic.{_≢_}
-use mathlib.Core.Bool.{Bool, not, _&&_, Bool·not-not}
+use mathlib.Core.Bool.{not, _&&_, Bool·not-not}
 use mathlib.Core.List.{List}
 use mathlib.Core.Option.{Option, none}
 use Prim.Native.Nat.{ℕ, zero, suc, _≤_, _<_}
 use native.Mathlib.Omega.{arith}
-use native.Mathlib.Decide.{decLt}
 use borrow.Author.Tests.{ne-eqb}
 use lib.Dec.{T, eqb, eqb→eq, T-not}
 use lib.ListN.{length, getD, take}
 use lib.Seq.{getD-take, length-take-le}
-use Rattle.paths.specs.Below.{lowest}
 use Rattle.paths.specs.Graph.{MARK}
 use Rattle.paths.specs.Table.{offer, smallest, due, keeps, Obeys}
 use Rattle.paths.proofs.Bools.{dec-T, not-T-false, T-and, by-cond}
-use Rattle.paths.proofs.Below.{lowest-is}
+use Rattle.paths.proofs.Below.{lowest-none, none-passes}
 use Rattle.floor.specs.declared.Floor.{Floor}
 use Rattle.floor.specs.Direction.{opposite}
 use Rattle.floor.specs.Place.{cells}
@@ -23,22 +21,6 @@ use Rattle.floor.specs.Refusal.{HasPassed}
 use Rattle.floor.specs.Step.{target, allowed, graph}
 use Rattle.floor.proofs.Laws.{lawful, reaches-open}
 use Rattle.claims.specs.Table.{owed, breaks, breaking}
-
--- `lowest` gives the bound exactly when no number below it passes the test
-lowest-none : (p : ℕ → Bool) (n : ℕ) → lowest p n ≡ n → (v : ℕ) → v < n → T (not (p v))
-lowest-none p n e v h =
-    elim (dec-T (p v)) [
-      | yes k ↦ absurd (omega (arith, lowest-is p n .minimal v h k))
-      | no k ↦ rw (not-T-false (p v) k) tt
-    ]
-
-pub none-lowest : (p : ℕ → Bool) (n : ℕ) → ((v : ℕ) → v < n → T (not (p v))) → lowest p n ≡ n
-none-lowest p n k =
-    let x = lowest-is p n in
-    elim (decLt (lowest p n) n) [
-      | yes l ↦ absurd (T-not (p (lowest p n)) (k (lowest p n) l) (x .passes l))
-      | no l ↦ omega (arith, x .small)
-    ]
 
 module _ (f : Floor) (m t : List ℕ) (v : ℕ) where
   -- no step comes into v
@@ -103,9 +85,9 @@ module _ (f : Floor) (m : List ℕ) (s : ℕ) (t : List ℕ) (opens : getD m s 0
     unfolding breaking
     unbroken-obeys e = record {
       covers = length-take-le (cells f) t covers;
-      rule = λ v h. rw (same-rule v h) (lowest-none (breaks f m s t) (cells f) e v h);
+      rule = λ v h. rw (same-rule v h) (none-passes (breaks f m s t) (cells f) e v h);
     }
 
     pub obeys-unbroken : Obeys (graph f m) s (take (cells f) t) → breaking f m s t ≡ cells f
     unfolding breaking
-    obeys-unbroken o = none-lowest (breaks f m s t) (cells f) (λ v h. rw (same-rule v h) at (o .rule v h))
+    obeys-unbroken o = lowest-none (breaks f m s t) (cells f) (λ v h. T-not (breaks f m s t v) (rw (same-rule v h) at (o .rule v h)))

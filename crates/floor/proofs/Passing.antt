@@ -1,12 +1,13 @@
--- What a floor and its bytes are after `Passed`.
-use mathlib.Core.Path.{_≡_}
+-- What a floor and its bytes are after `Passed`, and that such ones pass.
+use mathlib.Core.Path.{_≡_, sym}
 use mathlib.Core.Logic.{_⊎_, ⊎-elim, inl, inr}
-use mathlib.Core.Bool.{_||_}
+use mathlib.Core.Bool.{true, _||_}
 use mathlib.Core.List.{List}
 use Prim.Native.Nat.{ℕ, _*_, _≤_, _<_}
-use native.Mathlib.Nat.{mul-le-mul}
+use native.Mathlib.Nat.{mul-le-mul, le-of-eq}
 use native.Mathlib.Omega.{arith}
 use native.Mathlib.Decide.{decLt}
+use borrow.Author.Tests.{eq-eqb, le-ltb, lt-ltb, le-leb}
 use lib.Dec.{T, eqb, leb, ltb, eqb→eq, leb→le, ltb→lt, lt→ltb, nltb→le}
 use lib.ListN.{length, getD, List·getD-eq-default}
 use Rattle.floor.specs.declared.Floor.{Floor}
@@ -14,7 +15,7 @@ use Rattle.floor.specs.declared.Screen.the-variants.{Passed}
 use Rattle.floor.specs.Place.{greatestSide, greatestWeight, isSide, hasSides, cells}
 use Rattle.floor.specs.Refusal.{firstAbove, screen, mapLines, floorLines, HasPassed}
 use Rattle.paths.proofs.Bools.{T-and, T-or, T-not-not}
-use Rattle.paths.proofs.Below.{lowest-is}
+use Rattle.paths.proofs.Below.{lowest-is, lowest-none}
 use Rattle.floor.proofs.Screens.{NoneGiven, none-given}
 
 pub record Side (n : ℕ) : Type 0 where
@@ -69,6 +70,21 @@ of-lines f m n =
 
 pub map-facts : (f : Floor) (m : List ℕ) → screen (mapLines f m) ≡ Passed → MapFacts f m
 map-facts f m e = of-lines f m (none-given (mapLines f m) e)
+
+-- a map with these facts passes: the converse of `map-facts`
+sides-pass : (f : Floor) (m : List ℕ) → MapFacts f m → hasSides f ≡ true
+unfolding hasSides isSide
+sides-pass f m k =
+    rw (lt-ltb 0 (f .width) (k .wide), le-leb (f .width) greatestSide (k .wide-top), lt-ltb 0 (f .height) (k .high), le-leb (f .height) greatestSide (k .high-top))
+
+none-above : (m : List ℕ) → ((v : ℕ) → getD m v 0 ≤ greatestWeight) → firstAbove m ≡ length m
+unfolding firstAbove
+none-above m k =
+    lowest-none (λ v. ltb greatestWeight (getD m v 0)) (length m) λ v l t. omega (arith, ltb→lt greatestWeight (getD m v 0) t, k v)
+
+pub facts-pass : (f : Floor) (m : List ℕ) → MapFacts f m → screen (mapLines f m) ≡ Passed
+facts-pass f m k =
+    rw (sides-pass f m k, eq-eqb (length m) (cells f) (k .covers), le-ltb (firstAbove m) (length m) (le-of-eq (sym (none-above m (k .weights)))))
 
 pub few-cells : {f : Floor} {m : List ℕ} → MapFacts f m → cells f ≤ greatestSide * greatestSide
 few-cells k = mul-le-mul (k .wide-top) (k .high-top)

@@ -1,25 +1,23 @@
 -- What is known of a text that reads as a map: its header has passed, its rows are whole, and the map passes the writer's refusals.
 use mathlib.Core.Path.{_≡_, refl, sym, ap, _∙_}
-use mathlib.Core.Bool.{true, _&&_}
+use mathlib.Core.Bool.{_&&_}
 use mathlib.Core.List.{List, [], _∷_, _++_, map}
 use Prim.Native.Nat.{ℕ, zero, suc, _+_, _*_, _≤_, _<_}
 use native.Mathlib.Nat.{mul-comm, mul-pos, le-of-eq}
 use native.Mathlib.Omega.{arith}
-use borrow.Author.Tests.{eq-eqb, le-ltb, lt-ltb, le-leb}
 use lib.Dec.{eqb, ltb, ltb→lt, nltb→le}
-use lib.ListN.{length, getD, take, drop, length-drop}
+use lib.ListN.{length, take, drop, length-drop}
 use Rattle.paths.proofs.Bools.{by-cond, T-and}
-use Rattle.floor.specs.declared.Floor.{Floor}
 use Rattle.floor.specs.declared.Screen.{Screen}
 use Rattle.floor.specs.declared.Screen.the-variants.{Passed, Refused}
-use Rattle.floor.specs.Place.{greatestSide, greatestWeight, isSide, hasSides, cells}
-use Rattle.floor.specs.Refusal.{screen, mapLines, firstAbove}
+use Rattle.floor.specs.Place.{greatestSide, greatestWeight, cells}
+use Rattle.floor.specs.Refusal.{screen}
 use Rattle.floor.proofs.Screens.{none-given}
 use Rattle.floor.proofs.Passing.{MapFacts}
 use Rattle.maptext.specs.declared.Cell.{Cell}
 use Rattle.maptext.specs.Reading.{Rows, whole, fault, read, cellOf, heightIn, widthIn, rowsAt, headerLines, readRows, ofRows, afterHeader, readingOf}
 use Rattle.maptext.specs.Working.{byteFor, byteOf, bytesIn, judged, Weights}
-use Rattle.maptext.proofs.Sides.{lowest-none, side-positive}
+use Rattle.maptext.proofs.Sides.{side-positive}
 use Rattle.maptext.proofs.Whole.{whole-rows, rows-length, bytes-length}
 
 whole-inj : {m n : List ℕ} → whole m ≡ whole n → m ≡ n
@@ -76,21 +74,6 @@ weights-bytes : (w h : ℕ) (text : List ℕ) → Weights (bytesIn w h text)
 weights-bytes w zero text = λ v. omega arith
 weights-bytes w (suc h) text =
     weights-append (map byteOf (take w text)) (bytesIn w h (drop (suc w) text)) (weights-map (take w text)) (weights-bytes w h (drop (suc w) text))
-
--- a map with these facts passes: the converse of `map-facts`
-sides-pass : (f : Floor) (m : List ℕ) → MapFacts f m → hasSides f ≡ true
-unfolding hasSides isSide
-sides-pass f m k =
-    rw (lt-ltb 0 (f .width) (k .wide), le-leb (f .width) greatestSide (k .wide-top), lt-ltb 0 (f .height) (k .high), le-leb (f .height) greatestSide (k .high-top))
-
-none-above : (m : List ℕ) → Weights m → firstAbove m ≡ length m
-unfolding firstAbove
-none-above m k =
-    lowest-none (λ v. ltb greatestWeight (getD m v 0)) (length m) λ v l t. omega (arith, ltb→lt greatestWeight (getD m v 0) t, k v)
-
-pub facts-pass : (f : Floor) (m : List ℕ) → MapFacts f m → screen (mapLines f m) ≡ Passed
-facts-pass f m k =
-    rw (sides-pass f m k, eq-eqb (length m) (cells f) (k .covers), le-ltb (firstAbove m) (length m) (le-of-eq (sym (none-above m (k .weights)))))
 
 module _ {text : List ℕ} {room w h : ℕ} {m : List ℕ} (x : IsFound text room w h m) where
   -- the room was long enough

@@ -5,13 +5,12 @@ use mathlib.Core.List.{List, [], _∷_, _++_, append-assoc}
 use Prim.Native.Nat.{ℕ, zero, suc, _+_, _-_, _*_, _≤_, _<_, zero-le, suc-le-suc}
 use native.Mathlib.Numerals.{add-one}
 use native.Mathlib.Omega.{arith}
-use native.Mathlib.Decide.{decLt}
 use borrow.Author.Tests.{lt-ltb, le-leb}
 use lib.Dec.{T, eqb, leb, ltb, eqb→eq}
 use lib.ListN.{length, getD, drop, drop-of-length-le}
 use lib.Seq.{drop-cons, drop-append-seam}
 use Rattle.paths.specs.Below.{lowest}
-use Rattle.paths.proofs.Below.{lowest-is, every-at}
+use Rattle.paths.proofs.Below.{lowest-is, lowest-none, every-at}
 use Rattle.floor.specs.Place.{greatestSide}
 use Rattle.maptext.specs.Text.{LF, digits, sideLine}
 use Rattle.maptext.specs.Reading.{begins, sideIn}
@@ -36,14 +35,6 @@ lowest-only p top n h t only =
     let l = lowest-is p top in
     let low = l .minimal n h t in
     only (lowest p top) (omega arith) (l .passes (omega arith))
-
-pub lowest-none : (p : ℕ → Bool) (top : ℕ) → ((m : ℕ) → m < top → T (p m) → ⊥) → lowest p top ≡ top
-lowest-none p top never =
-    let l = lowest-is p top in
-    elim (decLt (lowest p top) top) [
-      | yes h ↦ absurd (never (lowest p top) h (l .passes h))
-      | no h ↦ omega (arith, l .small)
-    ]
 
 suc-inj : {m n : ℕ} → suc m ≡ suc n → m ≡ n
 suc-inj e = omega arith

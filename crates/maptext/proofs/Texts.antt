@@ -10,7 +10,7 @@ use Rattle.floor.specs.declared.Floor.{Floor}
 use Rattle.floor.specs.declared.Screen.the-variants.{Passed}
 use Rattle.floor.specs.Place.{cells}
 use Rattle.floor.specs.Refusal.{screen, mapLines}
-use Rattle.floor.proofs.Passing.{map-facts}
+use Rattle.floor.proofs.Passing.{map-facts, facts-pass}
 use Rattle.maptext.specs.declared.Read.{Read}
 use Rattle.maptext.specs.declared.Read.the-variants.{Map}
 use Rattle.maptext.specs.declared.Written.{Written}
@@ -19,7 +19,7 @@ use Rattle.maptext.specs.Text.{header, sideLine, rows, textOf, IsWritten
 use Rattle.maptext.specs.Reading.{read, readingOf, IsRead}
 use Rattle.maptext.proofs.Writing.{text-left}
 use Rattle.maptext.proofs.Back.{lines, header-lines, height-back, width-back, lines-back}
-use Rattle.maptext.proofs.Found.{found, found-room, found-facts, facts-pass}
+use Rattle.maptext.proofs.Found.{found, found-room, found-facts}
 
 text-lines : (w h : ℕ) (m : List ℕ) → textOf w h m ≡ lines w h (rows w h m)
 unfolding textOf

@@ -100,6 +100,22 @@ lowest-is p (suc n) =
     nowhere ih l b d h k (yes e) = absurd (T-not (p n) b (rw e at k))
     nowhere ih l b d h k (no e) = absurd (omega (arith, ih .minimal d (omega arith) k))
 
+-- `lowest` gives the bound exactly when no number below it passes the test
+pub lowest-none : (p : ℕ → Bool) (n : ℕ) → ((v : ℕ) → v < n → T (p v) → ⊥) → lowest p n ≡ n
+lowest-none p n never =
+    let l = lowest-is p n in
+    elim (decLt (lowest p n) n) [
+      | yes h ↦ absurd (never (lowest p n) h (l .passes h))
+      | no h ↦ omega (arith, l .small)
+    ]
+
+pub none-passes : (p : ℕ → Bool) (n : ℕ) → lowest p n ≡ n → (v : ℕ) → v < n → T (not (p v))
+none-passes p n e v h =
+    elim (dec-T (p v)) [
+      | yes k ↦ absurd (omega (arith, lowest-is p n .minimal v h k))
+      | no k ↦ rw (not-T-false (p v) k) tt
+    ]
+
 -- two tests that agree have the same lowest
 pub lowest-same : (p q : ℕ → Bool) (n : ℕ) → ((v : ℕ) → v < n → T (p v) → T (q v)) → ((v : ℕ) → v < n → T (q v) → T (p v)) → lowest p n ≡ lowest q n
 lowest-same p q n f h = le-antisymm (lower p q (lowest-is p n) (lowest-is q n) h) (lower q p (lowest-is q n) (lowest-is p n) f)
