@@ -14,7 +14,7 @@ use Rattle.floor.specs.declared.Screen.the-variants.{Passed}
 use Rattle.floor.specs.Place.{greatestSide, greatestWeight}
 use Rattle.floor.specs.Refusal.{screen}
 use Rattle.maptext.specs.Text.{LF, typeLine, heightWord, widthWord, mapLine, sideLine, header, charOf, rows}
-use Rattle.maptext.specs.Reading.{whole, oneCell, cellOf, begins, heightIn, widthAt, widthIn, mapAt, rowsAt, headerLines, readRow, readRows, readingOf, read}
+use Rattle.maptext.specs.Reading.{whole, oneCell, cellOf, begins, heightIn, widthAt, widthIn, mapAt, rowsAt, headerLines, readRow, readRows, readingOf, read, rowsIn}
 use Rattle.maptext.specs.Working.{isCell, byteFor, Weights}
 use Rattle.maptext.proofs.Beginnings.{begins-append}
 use Rattle.maptext.proofs.Sides.{side-in-is}
@@ -82,7 +82,7 @@ rows-back w (suc h) at m e k =
     rw (row-back w at m (rows w h (drop w m)) fits k, after, rest, take-append-drop w m)
 
 reading-is : (text : List ℕ) (room : ℕ) (m : List ℕ) → screen (headerLines text room) ≡ Passed
-    → readRows (widthIn text) (heightIn text) (rowsAt text) (drop (rowsAt text) text) ≡ whole m → readingOf text room ≡ read (widthIn text) (heightIn text) m
+    → rowsIn text ≡ whole m → readingOf text room ≡ read (widthIn text) (heightIn text) m
 unfolding readingOf
 reading-is text room m p e = rw (p, e)
 

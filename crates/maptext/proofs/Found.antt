@@ -15,7 +15,7 @@ use Rattle.floor.specs.Refusal.{screen}
 use Rattle.floor.proofs.Screens.{none-given}
 use Rattle.floor.proofs.Passing.{MapFacts}
 use Rattle.maptext.specs.declared.Cell.{Cell}
-use Rattle.maptext.specs.Reading.{Rows, whole, fault, read, cellOf, heightIn, widthIn, rowsAt, headerLines, readRows, ofRows, afterHeader, readingOf}
+use Rattle.maptext.specs.Reading.{Rows, whole, fault, read, cellOf, heightIn, widthIn, rowsAt, headerLines, readRows, ofRows, afterHeader, readingOf, rowsIn}
 use Rattle.maptext.specs.Working.{byteFor, byteOf, bytesIn, judged, Weights}
 use Rattle.maptext.proofs.Sides.{side-positive}
 use Rattle.maptext.proofs.Whole.{whole-rows, rows-length, bytes-length}
@@ -34,7 +34,7 @@ pub found : (text : List ℕ) (room w h : ℕ) (m : List ℕ) → readingOf text
 unfolding readingOf
 found text room w h m e = go (screen (headerLines text room)) refl e
   where
-    of-rows : (x : Rows) → readRows (widthIn text) (heightIn text) (rowsAt text) (drop (rowsAt text) text) ≡ x → screen (headerLines text room) ≡ Passed
+    of-rows : (x : Rows) → rowsIn text ≡ x → screen (headerLines text room) ≡ Passed
         → ofRows (widthIn text) (heightIn text) x ≡ read w h m → IsFound text room w h m
     of-rows (whole n) q p e =
         let width : w ≡ widthIn text = cc in
@@ -44,7 +44,7 @@ found text room w h m e = go (screen (headerLines text room)) refl e
     of-rows (fault n p) q s e = let z : _≡_ {A = ℕ} 0 1 = cc in absurd (omega arith)
 
     go : (s : Screen) → screen (headerLines text room) ≡ s → afterHeader text s ≡ read w h m → IsFound text room w h m
-    go Passed p e = of-rows (readRows (widthIn text) (heightIn text) (rowsAt text) (drop (rowsAt text) text)) refl p e
+    go Passed p e = of-rows (rowsIn text) refl p e
     go (Refused n p) q e = let z : _≡_ {A = ℕ} 0 1 = cc in absurd (omega arith)
 
 byte-small : (b : ℕ) → byteOf b ≤ greatestWeight

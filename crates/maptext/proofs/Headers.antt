@@ -13,7 +13,7 @@ use Rattle.floor.specs.Place.{greatestSide}
 use Rattle.floor.specs.Refusal.{screen}
 use Rattle.maptext.specs.declared.Read.{Read}
 use Rattle.maptext.specs.Text.{typeLine, mapLine, sideLine}
-use Rattle.maptext.specs.Reading.{Rows, whole, fault, begins, sideIn, heightIn, widthAt, widthIn, mapAt, rowsAt, headerLines, readRows, ofRows, readingOf, readFor}
+use Rattle.maptext.specs.Reading.{Rows, whole, fault, begins, sideIn, heightIn, widthAt, widthIn, mapAt, rowsAt, headerLines, readRows, ofRows, readingOf, readFor, rowsIn}
 use Rattle.maptext.specs.Working.{judged, answerFor}
 use Rattle.maptext.proofs.Beginnings.{begins-length}
 use Rattle.maptext.proofs.Sides.{side-there}
@@ -82,4 +82,4 @@ module _ (text : List ℕ) (room : ℕ) where
           unfolding readingOf
           rows-judged enough width height start =
               rw (header-passed text first second third fourth room enough, width, height, start)
-              (answer-of (widthIn text) (heightIn text) (readRows (widthIn text) (heightIn text) (rowsAt text) (drop (rowsAt text) text)))
+              (answer-of (widthIn text) (heightIn text) (rowsIn text))

@@ -79,6 +79,9 @@ mapAt text = widthAt text + length (sideLine widthWord (widthIn text))
 abbrev pub rowsAt : List ℕ → ℕ
 rowsAt text = mapAt text + length mapLine
 
+abbrev pub rowsIn : List ℕ → Rows
+rowsIn text = readRows (widthIn text) (heightIn text) (rowsAt text) (drop (rowsAt text) text)
+
 -- 21 to 24: the first to fourth line is not as it should be, at its start; then 29: the cell room is too short
 abbrev pub headerLines : List ℕ → ℕ → List Line
 headerLines text room =
@@ -98,7 +101,7 @@ ofRows w h (whole m) = read w h m
 ofRows w h (fault n p) = refused n p
 
 abbrev pub afterHeader : List ℕ → Screen → Reading
-afterHeader text Passed = ofRows (widthIn text) (heightIn text) (readRows (widthIn text) (heightIn text) (rowsAt text) (drop (rowsAt text) text))
+afterHeader text Passed = ofRows (widthIn text) (heightIn text) (rowsIn text)
 afterHeader text (Refused n p) = refused n p
 
 -- the reading of a text, with a cell room of that length

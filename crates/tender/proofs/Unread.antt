@@ -15,6 +15,7 @@ use Rattle.floor.specs.declared.Screen.the-variants.{Passed, Refused}
 use Rattle.floor.specs.Refusal.{screen}
 use Rattle.maptext.specs.declared.Read.{Read}
 use Rattle.maptext.specs.Reading.{
+  rowsIn,
   Rows,
   whole,
   fault,
@@ -32,7 +33,7 @@ use Rattle.maptext.specs.Reading.{
   IsRead,
 }
 use Rattle.desk.specs.Use.{greatestText, greatestUsedSide, withinSides, usedOf, IsUsed}
-use Rattle.tender.specs.FirstCondition.{Refuses, rowsIn, IsFirstFault, IsUnusable, too-long, unread, too-great}
+use Rattle.tender.specs.FirstCondition.{Refuses, IsFirstFault, IsUnusable, too-long, unread, too-great}
 use Rattle.tender.proofs.Lines.{lowest-line}
 
 -- an answer of the reader is a refusal exactly when the reading is

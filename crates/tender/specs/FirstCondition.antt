@@ -6,14 +6,14 @@ use mathlib.Core.Bool.{true, false}
 use mathlib.Core.List.{List, [], _∷_}
 use Prim.Native.Nat.{ℕ, _≤_, _<_}
 use lib.Dec.{T}
-use lib.ListN.{length, drop}
+use lib.ListN.{length}
 use Rattle.floor.specs.declared.Floor.{Floor}
 use Rattle.floor.specs.declared.Screen.the-variants.{Passed, Refused}
 use Rattle.floor.specs.Refusal.{Line, line, screen, mapLines, floorLines, questionLines}
 use Rattle.maptext.specs.declared.Read.{Read}
 use Rattle.maptext.specs.declared.Written.{Written}
 use Rattle.maptext.specs.Text.{writeLines, IsWritten}
-use Rattle.maptext.specs.Reading.{Rows, fault, readRows, heightIn, widthIn, rowsAt, headerLines, read, readingOf, IsRead}
+use Rattle.maptext.specs.Reading.{fault, rowsIn, headerLines, read, readingOf, IsRead}
 use Rattle.claims.specs.declared.RouteVerdict.{RouteVerdict}
 use Rattle.claims.specs.declared.TableVerdict.{TableVerdict}
 use Rattle.claims.specs.Route.{Claim, claimLines, routeVerdict}
@@ -40,9 +40,6 @@ pub record Refuses (due refused : ℕ → ℕ → Type 0) (same : Type 0) : Type
   pub alters-nothing : (n p : ℕ) → refused n p → same
 
 -- map text: a line of the header, or, where none applies, the first fault met in the rows
-abbrev pub rowsIn : List ℕ → Rows
-rowsIn text = readRows (widthIn text) (heightIn text) (rowsAt text) (drop (rowsAt text) text)
-
 abbrev pub IsFirstFault : List ℕ → ℕ → ℕ → ℕ → Type 0
 IsFirstFault text room n p = IsLowestLine (headerLines text room) n p ⊎ ((screen (headerLines text room) ≡ Passed) × (rowsIn text ≡ fault n p))
 
