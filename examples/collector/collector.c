@@ -6,11 +6,10 @@
  *
  * Exit status: 0 if every claim holds, 1 if one does not, 2 if the input cannot be read.
  */
-#include <errno.h>
 #include <stdio.h>
-#include <stdlib.h>
 #include <string.h>
 
+#include "../words.h"
 #include "fradnumber.h"
 
 enum { MOST = 65536 };
@@ -23,46 +22,25 @@ static const char *in_words(uint32_t number)
 {
     switch (number) {
     case FRADNUMBER_HOLDS: return "holds";
-    case FRADNUMBER_BAD_SIDE: return "a side is 0 or above 256";
-    case FRADNUMBER_BAD_LENGTH: return "the map has another length than width times height";
-    case FRADNUMBER_BAD_WEIGHT: return "a weight is above 9";
-    case FRADNUMBER_BAD_WAYS: return "ways is neither 4 nor 8";
-    case FRADNUMBER_START_OFF_MAP: return "the start is off the map";
-    case FRADNUMBER_GOAL_OFF_MAP: return "the goal is off the map";
-    case FRADNUMBER_START_BLOCKED: return "the start is blocked";
-    case FRADNUMBER_GOAL_BLOCKED: return "the goal is blocked";
-    case FRADNUMBER_ROUTE_TOO_LONG: return "the route has as many steps as there are cells, or more";
     case FRADNUMBER_NO_SUCH_DIRECTION: return "there is no such direction";
     case FRADNUMBER_LEAVES_MAP: return "the step leaves the map";
     case FRADNUMBER_ENTERS_BLOCKED: return "the step enters a blocked cell";
     case FRADNUMBER_CUTS_CORNER: return "the step cuts a corner";
     case FRADNUMBER_NOT_AT_GOAL: return "the route does not end at the goal";
     case FRADNUMBER_COST_DIFFERS: return "the route costs something else";
-    default: return "no number of this header";
+    default: return refusal_in_words(number);
     }
 }
 
-/* Digits as bytes; any other character is 255, which no map and no route may hold. Returns how many, or MOST + 1. */
+/* Digits as bytes. Returns how many, or MOST + 1. */
 static size_t bytes_of(const char *text, uint8_t *bytes)
 {
     size_t n = 0;
     for (; text[n] != '\0'; n++) {
         if (n == MOST) return MOST + 1;
-        bytes[n] = text[n] >= '0' && text[n] <= '9' ? (uint8_t)(text[n] - '0') : 255;
+        bytes[n] = byte_of(text[n]);
     }
     return n;
-}
-
-static int number_of(const char *text, uint32_t *number)
-{
-    char *end;
-    unsigned long long n;
-    if (text[0] < '0' || text[0] > '9') return 0;
-    errno = 0;
-    n = strtoull(text, &end, 10);
-    if (errno != 0 || *end != '\0' || n > 4294967295u) return 0;
-    *number = (uint32_t)n;
-    return 1;
 }
 
 /* 1 if the claim holds. */

@@ -7,11 +7,10 @@
  * A route is printed as digits, a step each: 0 N, 1 NE, 2 E, 3 SE, 4 S, 5 SW, 6 W, 7 NW.
  * Exit status: 0 if every question was answered, 1 if one was refused, 2 if the input cannot be read.
  */
-#include <errno.h>
 #include <stdio.h>
-#include <stdlib.h>
 #include <string.h>
 
+#include "../words.h"
 #include "fradnumber.h"
 
 enum { MOST = 256 * 256 };
@@ -23,21 +22,6 @@ static uint8_t route[MOST];
 static uint8_t map[MOST];
 static size_t map_length;
 static uint32_t width, height, ways;
-
-static const char *in_words(uint64_t refusal)
-{
-    switch (refusal) {
-    case FRADNUMBER_BAD_SIDE: return "a side is 0 or above 256";
-    case FRADNUMBER_BAD_LENGTH: return "the map has another length than width times height";
-    case FRADNUMBER_BAD_WEIGHT: return "a weight is above 9";
-    case FRADNUMBER_BAD_WAYS: return "ways is neither 4 nor 8";
-    case FRADNUMBER_START_OFF_MAP: return "the start is off the map";
-    case FRADNUMBER_GOAL_OFF_MAP: return "the goal is off the map";
-    case FRADNUMBER_START_BLOCKED: return "the start is blocked";
-    case FRADNUMBER_GOAL_BLOCKED: return "the goal is blocked";
-    default: return "a room is too short"; /* 9 to 11: not with the rooms above */
-    }
-}
 
 static void print_route(uint64_t length)
 {
@@ -64,7 +48,7 @@ static int ask(uint32_t start, uint32_t goal, uint32_t limit)
         printf("stopped after %lu, floor %lu\n", (unsigned long)answer.settled, (unsigned long)answer.number);
         return 1;
     default:
-        printf("refused %lu at %lu: %s\n", (unsigned long)answer.refusal, (unsigned long)answer.place, in_words(answer.refusal));
+        printf("refused %lu at %lu: %s\n", (unsigned long)answer.refusal, (unsigned long)answer.place, refusal_in_words(answer.refusal));
         return 0;
     }
 }
@@ -75,24 +59,12 @@ static int bad(const char *what)
     return 2;
 }
 
-static int number_of(const char *text, uint32_t *number)
-{
-    char *end;
-    unsigned long long n;
-    if (text[0] < '0' || text[0] > '9') return 0;
-    errno = 0;
-    n = strtoull(text, &end, 10);
-    if (errno != 0 || *end != '\0' || n > 4294967295u) return 0;
-    *number = (uint32_t)n;
-    return 1;
-}
-
 /* Adds digits to the map; any other character becomes 255, which the search refuses. 0 if there is no room for them. */
 static int add_cells(const char *digits)
 {
     for (; *digits != '\0'; digits++) {
         if (map_length == MOST) return 0;
-        map[map_length++] = *digits >= '0' && *digits <= '9' ? (uint8_t)(*digits - '0') : 255;
+        map[map_length++] = byte_of(*digits);
     }
     return 1;
 }
