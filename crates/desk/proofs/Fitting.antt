@@ -12,12 +12,12 @@ use lib.Seq.{getD-take, getD-drop}
 use Rattle.paths.specs.Graph.{MARK}
 use Rattle.paths.specs.First.{firstRoute}
 use Rattle.paths.specs.Table.{Right}
-use Rattle.paths.specs.Order.{known, L, place}
-use Rattle.paths.specs.Answer as row
-use Rattle.paths.specs.Answer.{answerOf}
+use Rattle.settling.specs.Order.{known, L, place}
+use Rattle.settling.specs.Answer as row
+use Rattle.settling.specs.Answer.{answerOf}
 use Rattle.paths.proofs.Bools.{T-and, by-cond}
 use Rattle.paths.proofs.Below.{count-le}
-use Rattle.paths.proofs.Orders.{known-is, in-known, place-absent, length-sorted}
+use Rattle.settling.proofs.Orders.{known-is, in-known, place-absent, length-sorted}
 use Rattle.paths.proofs.Meaning.{reachable-known, one-first-route, first-route-cost, least-cost-route-short}
 use Rattle.floor.specs.declared.Floor.{Floor}
 use Rattle.floor.specs.declared.Screen.{Screen}

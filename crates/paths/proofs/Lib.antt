@@ -4,13 +4,5 @@ pub mod Walks
 pub mod Ground
 pub mod Rule
 pub mod Exists
-pub mod Orders
 pub mod Firsts
 pub mod Meaning
-pub mod Waves
-pub mod Tallies
-pub mod Cuts
-pub mod Answers
-pub mod Outcomes
-pub mod Fronts
-pub mod Walking

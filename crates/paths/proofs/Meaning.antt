@@ -1,24 +1,19 @@
 -- What the definitions of specs/ mean: the theorems, each from the laws in the files beside this one.
 use mathlib.Core.Path.{_≡_, sym, _∙_, ap}
 use mathlib.Core.Logic.{_↔_, _≢_}
-use mathlib.Core.Bool.{_&&_}
 use mathlib.Core.List.{List, [], _∷_}
 use Prim.Native.Nat.{ℕ, _-_, _*_, _≤_, _<_}
 use native.Mathlib.Omega.{arith}
 use native.Mathlib.Nat.{mul-le-mul-left}
-use lib.Dec.{ltb}
 use lib.ListN.{length, getD}
-use Rattle.paths.specs.Below.{count}
 use Rattle.paths.specs.Graph.{Graph, Lawful, MARK}
 use Rattle.paths.specs.Route.{costOf, Route, Reachable, Least}
 use Rattle.paths.specs.Table.{Right, Obeys}
 use Rattle.paths.specs.First.{First, firstRoute}
-use Rattle.paths.specs.Order.{Before, key, known, L, place}
 use Rattle.paths.proofs.Walks.{ending-cons}
 use Rattle.paths.proofs.Ground.{value-most, cheaper, cheaper-lt, right-grounded}
 use Rattle.paths.proofs.Rule.{obeys-right, right-obeys}
 use Rattle.paths.proofs.Exists.{least-unique, right-unique, right-exists}
-use Rattle.paths.proofs.Orders.{In, known-is, is-known, key-less, in-at, known-in, in-known, keys-rise, place-count}
 use Rattle.paths.proofs.Firsts.{first-unique, first-cost, first-route, least-short}
 
 module _ {g : Graph} {least most : ℕ} (law : Lawful g least most) (s : ℕ) (start : s < g .cells) where
@@ -43,32 +38,6 @@ module _ {g : Graph} {least most : ℕ} (law : Lawful g least most) (s : ℕ) (s
     -- a cell is reachable exactly when its value is not MARK
     pub reachable-known : (v : ℕ) → v < g .cells → Reachable g s v ↔ (getD t v 0 ≢ MARK)
     reachable-known v h = (λ x m. right .closed v h m (x .0) (x .1), λ m. let l = right .reached v h m in (l .way, l .route))
-
-    -- L has exactly the reachable cells, the start among them
-    pub L-members : (v : ℕ) → In v (L t) ↔ Reachable g s v
-    L-members v = (
-      λ i. let k = in-known t v (length t) i in reachable-known v (omega (arith, k .0, right .covers)) .1 (known-is t v (k .1)),
-      λ x. let h = ends-inside v x in known-in t v (length t) (omega (arith, right .covers)) (is-known t v (reachable-known v h .0 x)),
-    )
-
-    -- sorted by cost and, at equal cost, by cell number
-    pub L-sorted : (i j : ℕ) → i < j → j < length (L t) → Before t (getD (L t) i 0) (getD (L t) j 0)
-    L-sorted i j h k =
-        let a = in-known t (getD (L t) i 0) (length t) (in-at (L t) i (omega arith)) .0 in
-        let b = in-known t (getD (L t) j 0) (length t) (in-at (L t) j k) .0 in
-        key-less t (getD (L t) i 0) (getD (L t) j 0) (omega (arith, right .covers, law .cells-fit)) (omega (arith, right .covers, law .cells-fit))
-        (keys-rise t (length t) (omega (arith, right .covers, law .cells-fit)) i j h k)
-
-    -- each cell once
-    pub L-once : (i j : ℕ) → i < j → j < length (L t) → getD (L t) i 0 ≢ getD (L t) j 0
-    L-once i j h k e =
-        omega (arith, keys-rise t (length t) (omega (arith, right .covers, law .cells-fit)) i j h k, ap (key t) e)
-
-    -- a cell's place in L is the number of known cells with a smaller key
-    pub L-place : (v : ℕ) → Reachable g s v → place v (L t) ≡ count (λ u. known t u && ltb (key t u) (key t v)) (length t)
-    L-place v x =
-        let h = ends-inside v x in
-        place-count t v (length t) (omega (arith, right .covers, law .cells-fit)) (omega (arith, right .covers)) (is-known t v (reachable-known v h .0 x))
 
     -- the first route exists for every reachable cell, is what walking back by the lowest direction gives, and is unique
     pub one-first-route : (v : ℕ) → Reachable g s v → First g s v (firstRoute g s t v) × ((ds : List ℕ) → First g s v ds → ds ≡ firstRoute g s t v)

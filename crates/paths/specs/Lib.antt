@@ -3,7 +3,3 @@ pub mod Graph
 pub mod Route
 pub mod Table
 pub mod First
-pub mod Order
-pub mod Answer
-pub mod Wave
-pub mod Cut

@@ -9,25 +9,26 @@ use lib.Dec.{leb, ltb}
 use lib.ListN.{length, getD, drop}
 use Rattle.paths.specs.Graph.{MARK}
 use Rattle.paths.specs.First.{firstRoute}
-use Rattle.paths.specs.Order.{key}
-use Rattle.paths.specs.Answer as row
-use Rattle.paths.specs.Answer.{costsLeft}
-use Rattle.paths.specs.Cut.{cheaperThan, Agree}
-use Rattle.paths.proofs.Cuts.{wave-agrees, key-to, place-rank, place-early}
+use Rattle.settling.specs.Order.{key}
+use Rattle.settling.specs.Answer as row
+use Rattle.settling.specs.Answer.{costsLeft}
+use Rattle.settling.specs.Cut.{cheaperThan, Agree}
+use Rattle.settling.proofs.Cuts.{wave-agrees, key-to, place-rank, place-early}
+use Rattle.settling.proofs.Walking.{plain, agree-plain, near-plain}
 use Rattle.floor.specs.declared.Floor.{Floor}
 use Rattle.floor.specs.Place.{cells}
 use Rattle.floor.specs.Step.{leastStep, graph}
 use Rattle.floor.proofs.Laws.{lawful}
 use Rattle.search.specs.declared.Answer.{Answer}
 use Rattle.search.specs.declared.Answer.the-variants.{Found, None}
-use Rattle.search.specs.declared.Band.{Band}
-use Rattle.search.specs.Bands.{AmongCells, IsLeast, belowIn, Looked, empty, looked, Rounds}
-use Rattle.search.specs.Cuts.{keyBelow}
-use Rattle.search.specs.Walks.{CanWalk}
+use Rattle.wave.specs.declared.Band.{Band}
+use Rattle.ranks.specs.Listed.{AmongCells, IsLeast, belowIn, keyBelow}
+use Rattle.wave.specs.Bands.{Looked, empty, looked, Rounds}
+use Rattle.walkback.specs.Walks.{CanWalk}
 use Rattle.search.specs.Search.{Question, answered}
 use Rattle.search.specs.Last.{CanStop, StoppedAt, Arrived, CanFinish, Finished}
-use Rattle.search.proofs.Fronts.{low-room, low-rises, next-wave, next-counted, can-look}
-use Rattle.search.proofs.Tables.{cheaper-most}
+use Rattle.wave.proofs.Rounds.{low-room, low-rises, next-wave, next-counted, can-look}
+use Rattle.settling.proofs.Counts.{cheaper-most}
 use Rattle.search.proofs.Ranks.{rank-bound, can-find}
 use Rattle.search.proofs.Finishing.{table, right, row-none, left-all, goal-rank, row-found, left-goal, row-stopped, left-limit}
 
@@ -132,12 +133,14 @@ module _ {f : Floor} {m : List ℕ} {q : Question} {costs work route : List ℕ}
         passed = r .between .passed;
         starts = r .between .starts;
         inside = c .inside;
+        covers = covers;
         t = table f m q costs work (b .front) (r .between);
         right = right f m q costs work (b .front) (r .between);
-        bound = b .bound;
-        top = top;
-        agrees = agrees;
-        below = below;
+        h = λ v. 0;
+        consistent = plain (graph f m);
+        top = b .bound - 1;
+        agrees = agree-plain (right f m q costs work (b .front) (r .between) .covers) top (omega arith) agrees;
+        near = near-plain top below;
       }
 
       pub goal-before : goalPlace < cheaperThan costs (b .bound)

@@ -11,23 +11,23 @@ use lib.Seq.{slice, slice-empty}
 use Rattle.paths.specs.Graph.{MARK}
 use Rattle.paths.specs.First.{firstRoute}
 use Rattle.paths.specs.Table.{Right}
-use Rattle.paths.specs.Order.{key}
-use Rattle.paths.specs.Answer as row
-use Rattle.paths.specs.Answer.{Kind, costsLeft}
-use Rattle.paths.specs.Wave.{Wave}
-use Rattle.paths.specs.Cut.{cheaperThan, rank, cut, Agree}
+use Rattle.settling.specs.Order.{key}
+use Rattle.settling.specs.Answer as row
+use Rattle.settling.specs.Answer.{Kind, costsLeft}
+use Rattle.settling.specs.Wave.{Wave}
+use Rattle.settling.specs.Cut.{cheaperThan, rank, cut, Agree}
 use Rattle.paths.proofs.Below.{count-same}
 use Rattle.paths.proofs.Meaning.{one-right-table}
-use Rattle.paths.proofs.Waves.{mark-not, occ-none}
-use Rattle.paths.proofs.Cuts.{done-agrees, key-from, key-to, key-cost}
-use Rattle.paths.proofs.Answers.{answer-found, left-found, next, answer-stopped, left-stopped, answer-none, left-none}
+use Rattle.settling.proofs.Waves.{mark-not, occ-none}
+use Rattle.settling.proofs.Cuts.{done-agrees, key-from, key-to, key-cost}
+use Rattle.settling.proofs.Answers.{answer-found, left-found, next, answer-stopped, left-stopped, answer-none, left-none}
 use Rattle.floor.specs.declared.Floor.{Floor}
 use Rattle.floor.specs.Place.{cells}
 use Rattle.floor.specs.Step.{leastStep, graph}
 use Rattle.floor.proofs.Laws.{lawful}
-use Rattle.search.specs.declared.Front.{Front}
-use Rattle.search.specs.Bands.{Between}
-use Rattle.search.specs.Cuts.{keyBelow}
+use Rattle.wave.specs.declared.Front.{Front}
+use Rattle.wave.specs.Bands.{Between}
+use Rattle.ranks.specs.Listed.{keyBelow}
 use Rattle.search.specs.Search.{Question, rowOf}
 use Rattle.search.proofs.Ranks.{rank-listed}
 

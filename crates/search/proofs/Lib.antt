@@ -1,12 +1,3 @@
-pub mod Slices
-pub mod Tables
-pub mod Offers
-pub mod Looks
-pub mod Visits
-pub mod Fronts
-pub mod Keys
-pub mod Giving
-pub mod WalksBack
 pub mod Ranks
 pub mod Finishing
 pub mod Answering

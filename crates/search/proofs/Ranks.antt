@@ -7,16 +7,16 @@ use native.Mathlib.Decide.{decLt}
 use lib.Dec.{ltb, ltb→lt, lt→ltb}
 use lib.ListN.{length, getD}
 use Rattle.paths.specs.Graph.{MARK}
-use Rattle.paths.specs.Order.{key}
-use Rattle.paths.specs.Cut.{cheaperThan, rank}
+use Rattle.settling.specs.Order.{key}
+use Rattle.settling.specs.Cut.{cheaperThan, rank}
 use Rattle.paths.proofs.Below.{count-same}
-use Rattle.paths.proofs.Fronts.{front-rank}
+use Rattle.settling.proofs.Fronts.{front-rank}
 use Rattle.floor.specs.declared.Floor.{Floor}
 use Rattle.floor.specs.Place.{cells}
 use Rattle.floor.proofs.Laws.{lawful}
-use Rattle.search.specs.declared.Front.{Front}
-use Rattle.search.specs.Bands.{Between}
-use Rattle.search.specs.Cuts.{keyBelow, CanFind, IsNext}
+use Rattle.wave.specs.declared.Front.{Front}
+use Rattle.wave.specs.Bands.{Between}
+use Rattle.ranks.specs.Listed.{keyBelow, CanFind, IsNext}
 
 -- before a cost's first key come the cells of a smaller cost
 pub rank-bound : (costs : List ℕ) → length costs ≤ MARK → (c : ℕ) → rank costs (c * 4294967296) ≡ cheaperThan costs c

@@ -6,18 +6,19 @@ use lib.ListN.{length, getD, drop}
 use Rattle.paths.specs.Graph.{MARK}
 use Rattle.paths.specs.First.{firstRoute}
 use Rattle.paths.specs.Table.{Right}
-use Rattle.paths.specs.Order.{key}
-use Rattle.paths.specs.Answer.{costsLeft}
-use Rattle.paths.specs.Cut.{cut}
+use Rattle.settling.specs.Order.{key}
+use Rattle.settling.specs.Answer.{costsLeft}
+use Rattle.settling.specs.Cut.{cut}
 use Rattle.floor.specs.declared.Floor.{Floor}
 use Rattle.floor.specs.Place.{cells}
 use Rattle.floor.specs.Step.{graph}
 use Rattle.search.specs.declared.Answer.{Answer}
 use Rattle.search.specs.declared.Answer.the-variants.{Found, Stopped}
-use Rattle.search.specs.declared.Band.{Band}
-use Rattle.search.specs.Bands.{AmongCells, Rounds}
-use Rattle.search.specs.Cuts.{CanFind, IsNext}
-use Rattle.search.specs.Walks.{CanWalk}
+use Rattle.wave.specs.declared.Band.{Band}
+use Rattle.ranks.specs.Listed.{AmongCells}
+use Rattle.wave.specs.Bands.{Rounds}
+use Rattle.ranks.specs.Listed.{CanFind, IsNext}
+use Rattle.walkback.specs.Walks.{CanWalk}
 use Rattle.search.specs.Search.{Question, rowOf, answered}
 
 pub record CanStop (costs work : List ℕ) (limit : ℕ) (b : Band) : Type 0 where
@@ -34,7 +35,6 @@ pub record StoppedAt (costs work : List ℕ) (limit : ℕ) (b : Band) (a : Answe
 
 pub record CanArrive (f : Floor) (m : List ℕ) (s goal place : ℕ) (costs route : List ℕ) : Type 0 where
   pub walk : CanWalk f m s goal costs
-  pub covers : length costs ≡ cells f
   pub room : cells f ≤ length route
   pub small : place < MARK
 

@@ -6,8 +6,8 @@ use lib.Dec.{ltb}
 use lib.ListN.{length, drop, replicate}
 use Rattle.paths.specs.Graph.{MARK}
 use Rattle.paths.specs.Table.{Right}
-use Rattle.paths.specs.Answer as row
-use Rattle.paths.specs.Answer.{Kind, answerOf, costsLeft}
+use Rattle.settling.specs.Answer as row
+use Rattle.settling.specs.Answer.{Kind, answerOf, costsLeft}
 use Rattle.floor.specs.declared.Floor.{Floor}
 use Rattle.floor.specs.declared.Screen.{Screen}
 use Rattle.floor.specs.declared.Screen.the-variants.{Passed}

@@ -2,17 +2,17 @@
 ghost use Rattle.search.specs.Last.{CanStop, StoppedAt, CanArrive, Arrived, CanFinish, Finished};
 ghost use Rattle.search.specs.Search.{question};
 use crate::Answer;
-use crate::Band;
-use crate::KEY_BASE;
-use crate::cuts::count_before;
-use crate::cuts::find_key;
-use crate::cuts::key_of;
-use crate::cuts::trim;
-use crate::walks::write_route;
 use floor::Floor;
+use ranks::KEY_BASE;
+use ranks::cuts::key_of;
+use ranks::cuts::trim;
+use ranks::lists::count_before;
+use ranks::lists::find_key;
+use walkback::walks::write_route;
+use wave::Band;
 
 // The limit falls in the band: the cell at that place of L gives the floor, and it and all that come after it lose their costs.
-fn stop_at_limit(limit: u32, costs: &mut [u32], work: &[u32], band: Band) -> Answer
+fn stop_at_limit(limit: usize, costs: &mut [u32], work: &[u32], band: Band) -> Answer
     requires { ⌜ CanStop (now costs) (now work) limit band ⌝ }
     ensures { λ r. ⌜ StoppedAt (now (costs .entry)) (now (work .entry)) limit band r (now (costs .exit)) ⌝ }
 {
@@ -23,10 +23,10 @@ fn stop_at_limit(limit: u32, costs: &mut [u32], work: &[u32], band: Band) -> Ans
     let settled = front.settled;
     let low = (front.bound as u64) * KEY_BASE;
     let high = (bound as u64) * KEY_BASE;
-    let place = limit as usize - settled;
+    let place = limit - settled;
     let key = find_key(costs, work, from, len, low, high, place);
     trim(costs, key);
-    Answer::Stopped(limit as usize, (key / KEY_BASE) as u32)
+    Answer::Stopped(limit, (key / KEY_BASE) as u32)
 }
 
 // The goal is settled, with `place` cells before it: the route is written, and the cells after the goal lose their costs.
@@ -54,7 +54,7 @@ pub(crate) fn finish(
     map: &[u8],
     start: usize,
     goal: usize,
-    limit: u32,
+    limit: usize,
     costs: &mut [u32],
     work: &[u32],
     route: &mut [u8],
@@ -74,7 +74,7 @@ pub(crate) fn finish(
     if cost < band.bound {
         let before = count_before(costs, work, from, len, key_of(cost, goal));
         let place = settled + before;
-        if place < limit as usize {
+        if place < limit {
             return arrive(f, map, start, goal, place, costs, route);
         }
         return stop_at_limit(limit, costs, work, band);

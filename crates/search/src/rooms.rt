@@ -8,12 +8,12 @@ ghost use Rattle.search.specs.Last.{Finished};
 ghost use Rattle.search.specs.Search.{question, rooms, lengthLines, Searched, numbersOf, Called};
 use crate::Answer;
 use crate::AnswerNumbers;
-use crate::bands::fill;
-use crate::bands::settle;
 use crate::last::finish;
 use floor::Floor;
 use floor::MARK;
 use floor::Screen;
+use wave::bands::fill;
+use wave::bands::settle;
 
 // Refusals 1 to 8 of the question, then 9 to 11 of the rooms' lengths.
 fn screen_search(
@@ -51,7 +51,7 @@ fn search_rooms(
     map: &[u8],
     start: usize,
     goal: usize,
-    limit: u32,
+    limit: usize,
     costs: &mut [u32],
     work: &mut [u32],
     route: &mut [u8],
@@ -92,7 +92,7 @@ pub fn search(
                 map,
                 from,
                 to,
-                limit,
+                limit as usize,
                 &mut costs[..cells],
                 &mut work[..places],
                 route,

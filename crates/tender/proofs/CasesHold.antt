@@ -8,8 +8,8 @@ use lib.ListN.{length}
 use Rattle.paths.specs.Below.{every}
 use Rattle.paths.specs.Table.{offer, due, keeps}
 use Rattle.paths.specs.First.{lastStep, firstRoute}
-use Rattle.paths.specs.Order.{key, known}
-use Rattle.paths.specs.Answer.{Answer, answerOf, costsLeft}
+use Rattle.settling.specs.Order.{key, known}
+use Rattle.settling.specs.Answer.{Answer, answerOf, costsLeft}
 use Rattle.paths.proofs.Bools.{T-and}
 use Rattle.paths.proofs.Below.{every-at}
 use Rattle.paths.proofs.Meaning.{rule-is-right}

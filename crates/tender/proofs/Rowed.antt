@@ -10,9 +10,9 @@ use lib.Seq.{take-append-seam}
 use Rattle.paths.specs.Graph.{Lawful}
 use Rattle.paths.specs.Route.{costOf, Route}
 use Rattle.paths.specs.First.{First}
-use Rattle.paths.specs.Answer as row
-use Rattle.paths.specs.Answer.{Kind}
-use Rattle.paths.proofs.Outcomes.{code, found-first, found-cost, stopped-floor}
+use Rattle.settling.specs.Answer as row
+use Rattle.settling.specs.Answer.{Kind}
+use Rattle.settling.proofs.Outcomes.{code, found-first, found-cost, stopped-floor}
 use Rattle.floor.specs.declared.Floor.{Floor}
 use Rattle.floor.specs.declared.Screen.{Screen}
 use Rattle.floor.specs.declared.Screen.the-variants.{Passed}

@@ -8,10 +8,10 @@ use native.Mathlib.Omega.{arith}
 use lib.ListN.{length, getD, drop, List·getD-append}
 use Rattle.paths.specs.Graph.{MARK}
 use Rattle.paths.specs.Route.{Reachable}
-use Rattle.paths.specs.Answer as row
-use Rattle.paths.specs.Answer.{Kind, costsLeft}
-use Rattle.paths.specs.Order.{L, place}
-use Rattle.paths.proofs.Outcomes.{code, found-exactly, none-exactly, stopped-exactly, found-is, none-is, stopped-is, settled-left, unsettled-left, length-left}
+use Rattle.settling.specs.Answer as row
+use Rattle.settling.specs.Answer.{Kind, costsLeft}
+use Rattle.settling.specs.Order.{L, place}
+use Rattle.settling.proofs.Outcomes.{code, found-exactly, none-exactly, stopped-exactly, found-is, none-is, stopped-is, settled-left, unsettled-left, length-left}
 use Rattle.paths.proofs.Exists.{right-unique}
 use Rattle.floor.specs.declared.Floor.{Floor}
 use Rattle.floor.specs.declared.Screen.the-variants.{Passed}

@@ -4,7 +4,7 @@ use mathlib.Core.List.{List, [], _∷_}
 use Prim.Native.Nat.{ℕ, _*_}
 use lib.ListN.{take, replicate}
 use Rattle.paths.specs.Route.{costOf}
-use Rattle.paths.specs.Answer as row
+use Rattle.settling.specs.Answer as row
 use Rattle.floor.specs.declared.Floor.{Floor}
 use Rattle.floor.specs.Length.{surd, square, times, squared, stepLength, lengthOf}
 use Rattle.floor.specs.Step.{stepWeight, stepCost, target, graph}

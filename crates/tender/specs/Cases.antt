@@ -4,7 +4,7 @@ use mathlib.Core.List.{List, [], _∷_}
 use Prim.Native.Nat.{ℕ, _<_}
 use Rattle.paths.specs.Graph.{MARK}
 use Rattle.paths.specs.Table.{Right}
-use Rattle.paths.specs.Answer.{Kind, Answer, answerOf, costsLeft}
+use Rattle.settling.specs.Answer.{Kind, Answer, answerOf, costsLeft}
 use Rattle.floor.specs.declared.Floor.{Floor}
 use Rattle.floor.specs.Place.{floorOf, cells}
 use Rattle.floor.specs.Step.{graph}

@@ -8,7 +8,7 @@ use Rattle.paths.specs.Graph.{MARK}
 use Rattle.paths.specs.Route.{costOf, Route, Reachable}
 use Rattle.paths.specs.Table as table
 use Rattle.paths.specs.First.{First}
-use Rattle.paths.specs.Order.{L, place}
+use Rattle.settling.specs.Order.{L, place}
 use Rattle.floor.specs.declared.Floor.{Floor}
 use Rattle.floor.specs.declared.Screen.the-variants.{Passed}
 use Rattle.floor.specs.Place.{cells}

@@ -3,7 +3,7 @@ use mathlib.Core.Path.{_∙_}
 use native.Mathlib.Numerals.{add-one}
 use native.Mathlib.Omega.{arith}
 use borrow.Author.Needs.{needs}
-use Rattle.paths.specs.Order.{key}
+use Rattle.settling.specs.Order.{key}
 use Rattle.floor.proofs.Laws.{lawful}
 use Rattle.search.proofs.last.arrive.Statement.{statement}
 use Rattle.search.proofs.last.arrive.Tie as tie
@@ -25,12 +25,12 @@ key-of-requires c κs =
 add-trim : tie.Need-add-trim
 add-trim c =
     let s = c .before .before .before .before .before .before .before .before .before .before .before in
-    omega (arith, c .key-of .ensures, s .pre .walk .below, s .pre .walk .top, s .pre .walk .inside, lawful (s .args .f) (s .args .map .now) (s .pre .walk .passed) .cells-fit)
+    omega (arith, c .key-of .ensures, s .pre .walk .inside, lawful (s .args .f) (s .args .map .now) (s .pre .walk .passed) .cells-fit)
 
 trim-requires : tie.Need-trim-requires
 trim-requires c κs =
     let s = c .before .before .before .before .before .before .before .before .before .before .before in
-    omega (arith, s .pre .covers, lawful (s .args .f) (s .args .map .now) (s .pre .walk .passed) .cells-fit)
+    omega (arith, s .pre .walk .covers, lawful (s .args .f) (s .args .map .now) (s .pre .walk .passed) .cells-fit)
 
 add-t10 : tie.Need-add-t10
 add-t10 c = search needs

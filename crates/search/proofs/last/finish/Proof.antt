@@ -3,8 +3,8 @@ use mathlib.Core.Path.{_≡_, _∙_, ap}
 use Prim.Native.Nat.{ℕ, _+_}
 use native.Mathlib.Omega.{arith}
 use borrow.Author.Needs.{needs}
-use Rattle.paths.specs.Order.{key}
-use Rattle.search.specs.Cuts.{keyBelow}
+use Rattle.settling.specs.Order.{key}
+use Rattle.ranks.specs.Listed.{keyBelow}
 use Rattle.search.proofs.Answering.{listed, few, covers, goalPlace, can-stop, can-walk, limit-falls, goal-before, place-small, finished-none, finished-found, finished-stopped}
 use Rattle.search.proofs.last.finish.Statement.{statement}
 use Rattle.search.proofs.last.finish.Tie as tie
@@ -60,7 +60,6 @@ arrive-requires c κs =
     let n = t .before .before .before .if1 .left in
     record {
       walk = can-walk (s .pre) n (t .if2 .taken);
-      covers = covers (s .pre);
       room = s .pre .room;
       small = omega (arith, counts d, place-small (s .pre) n (t .if2 .taken));
     }

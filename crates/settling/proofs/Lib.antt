@@ -1,0 +1,11 @@
+pub mod Orders
+pub mod Lists
+pub mod Waves
+pub mod Slices
+pub mod Tallies
+pub mod Counts
+pub mod Fronts
+pub mod Cuts
+pub mod Walking
+pub mod Answers
+pub mod Outcomes

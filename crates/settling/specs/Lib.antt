@@ -1,0 +1,5 @@
+pub mod Order
+pub mod Answer
+pub mod Wave
+pub mod Cut
+pub mod Estimate

@@ -1,0 +1,95 @@
+// The walk back from the goal: at each cell the step into it that gives it its cost, the lowest direction first. That is the first of the least-cost routes.
+ghost use mathlib.Core.Path.{_≡_};
+ghost use mathlib.Core.List.{_++_, reverse};
+ghost use Prim.Native.Nat.{_≤_};
+ghost use lib.ListN.{length, drop};
+ghost use Rattle.paths.specs.First.{firstRoute};
+ghost use Rattle.floor.specs.Place.{cells};
+ghost use Rattle.floor.specs.Step.{graph};
+ghost use Rattle.walkback.specs.Walks.{HasCosts, Gives, IsLast, CanWalk};
+use crate::Back;
+use floor::Floor;
+use floor::Into;
+use floor::MARK;
+
+// The step into `cell` in a direction, if it gives the cell its cost. The sum has 64 bits, so that it can't wrap.
+fn giving_step(f: Floor, map: &[u8], costs: &[u32], cell: usize, direction: usize) -> Into
+    requires { ⌜ HasCosts f (now map) (now costs) cell ⌝ }
+    ensures { λ r. ⌜ Gives f (now (map .entry)) (now (costs .entry)) cell direction r ⌝ }
+{
+    let step = floor::steps::step_into(f, map, cell, direction);
+    let Into::From(from, cost) = step else {
+        return Into::Nothing;
+    };
+    let before = costs[from];
+    if before == MARK {
+        return Into::Nothing;
+    }
+    let sum = (before as u64) + (cost as u64);
+    if sum == costs[cell] as u64 {
+        return Into::From(from, cost);
+    }
+    Into::Nothing
+}
+
+// The lowest direction of a step that gives `cell` its cost, or 8 if none does.
+fn last_step(f: Floor, map: &[u8], costs: &[u32], cell: usize) -> Back
+    requires { ⌜ HasCosts f (now map) (now costs) cell ⌝ }
+    ensures { λ r. ⌜ IsLast f (now (map .entry)) (now (costs .entry)) cell r ⌝ }
+{
+    let mut direction = 0;
+    while direction < 8 {
+        let step = giving_step(f, map, costs, cell, direction);
+        if let Into::From(from, _) = step {
+            return Back { direction, from };
+        }
+        direction += 1;
+    }
+    Back {
+        direction,
+        from: cell,
+    }
+}
+
+// Writes the route's directions, the last one first, as the walk meets them, and gives their number.
+fn write_back(
+    f: Floor,
+    map: &[u8],
+    costs: &[u32],
+    start: usize,
+    goal: usize,
+    route: &mut [u8],
+) -> usize
+    requires { ⌜ CanWalk f (now map) start goal (now costs) × (cells f ≤ length (now route)) ⌝ }
+    ensures steps { λ r. ⌜ r ≡ length (firstRoute (graph f (now (map .entry))) start (now (costs .entry)) goal) ⌝ }
+    ensures written { λ r. ⌜ now (route .exit) ≡ reverse (firstRoute (graph f (now (map .entry))) start (now (costs .entry)) goal) ++ drop r (now (route .entry)) ⌝ }
+{
+    let mut cell = goal;
+    let mut n = 0;
+    while cell != start {
+        let step = last_step(f, map, costs, cell);
+        let direction = step.direction;
+        route[n] = direction as u8;
+        cell = step.from;
+        n += 1;
+    }
+    n
+}
+
+// Writes the first route, from the start onwards, and gives its length. One walk does: what it wrote is turned round.
+pub fn write_route(
+    f: Floor,
+    map: &[u8],
+    costs: &[u32],
+    start: usize,
+    goal: usize,
+    route: &mut [u8],
+) -> usize
+    requires { ⌜ CanWalk f (now map) start goal (now costs) × (cells f ≤ length (now route)) ⌝ }
+    ensures steps { λ r. ⌜ r ≡ length (firstRoute (graph f (now (map .entry))) start (now (costs .entry)) goal) ⌝ }
+    ensures written { λ r. ⌜ now (route .exit) ≡ firstRoute (graph f (now (map .entry))) start (now (costs .entry)) goal ++ drop r (now (route .entry)) ⌝ }
+{
+    let n = write_back(f, map, costs, start, goal, route);
+    bytes::reverse(route, 0, n);
+    n
+}
