@@ -3,7 +3,6 @@ use mathlib.Core.Path.{_≡_}
 use mathlib.Core.Logic.{_≢_}
 use mathlib.Core.Bool.{Bool, cond, not}
 use mathlib.Core.List.{List, [], _∷_, _++_}
-use mathlib.Core.Option.{Option, none, some}
 use Prim.Native.Nat.{ℕ, _<_}
 use lib.Dec.{eqb, ltb}
 use lib.ListN.{length, getD}
@@ -16,8 +15,6 @@ use Rattle.floor.specs.declared.Screen.the-variants.{Passed}
 use Rattle.floor.specs.Place.{cells}
 use Rattle.floor.specs.Step.{graph}
 use Rattle.floor.specs.Refusal.{Line, line, screen, floorLines, outsideLine, blockedLine}
-use Rattle.claims.specs.declared.Offer.{Offer}
-use Rattle.claims.specs.declared.Offer.the-variants.{Nothing, Sum}
 use Rattle.claims.specs.declared.TableVerdict.{TableVerdict}
 use Rattle.claims.specs.declared.TableVerdict.the-variants.{Right, Breaks}
 
@@ -28,11 +25,6 @@ costsLine f t = line 9 (ltb (length t) (cells f)) 0
 -- 1 to 5, 7, then 9
 abbrev pub tableLines : Floor → List ℕ → ℕ → List ℕ → List Line
 tableLines f m s t = floorLines f m ++ (outsideLine 5 f s ∷ blockedLine 7 m s ∷ costsLine f t ∷ [])
-
--- what the code holds for an offer
-abbrev pub offered : Offer → Option ℕ
-offered Nothing = none
-offered (Sum a) = some a
 
 -- what the rule asks of cell v: a blocked cell has MARK, any other what it is due by the values of its neighbours
 unfoldable pub owed : Floor → List ℕ → ℕ → List ℕ → ℕ → ℕ

@@ -1,4 +1,4 @@
-// The check of a claimed route and the check of a claimed cost table: 01, "Claims". They stand on the step rules alone.
+// The check of a claimed route and the check of a claimed cost table: 01, "Claims". They stand on the step rules, and on what the table rule asks of a cell.
 // specs/Route.antt and specs/Table.antt say what they answer; docs/PROMISES.md has a row for each public function.
 
 pub mod routes; // routes.rt: the check of a claimed route, and the collector's entry to it
@@ -16,10 +16,4 @@ pub enum TableVerdict {
     Refused(u32, usize),
     Right,
     Breaks(usize),
-}
-
-// What a cell is offered by its neighbours: nothing, or a sum that is taken in full.
-pub enum Offer {
-    Nothing,
-    Sum(u64),
 }

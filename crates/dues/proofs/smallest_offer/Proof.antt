@@ -6,9 +6,9 @@ use native.Mathlib.Omega.{arith}
 use borrow.Author.Needs.{needs}
 use Rattle.paths.specs.Table.{smallest}
 use Rattle.floor.specs.Step.{graph}
-use Rattle.claims.specs.Table.{offered}
-use Rattle.claims.proofs.tables.smallest_offer.Statement.{statement}
-use Rattle.claims.proofs.tables.smallest_offer.Tie as tie
+use Rattle.dues.specs.Offered.{offered}
+use Rattle.dues.proofs.smallest_offer.Statement.{statement}
+use Rattle.dues.proofs.smallest_offer.Tie as tie
 
 abbrev Inv-loop : tie.InvT-loop
 Inv-loop f map costs cell least₀ direction₀ least direction = (offered least ≡ smallest (graph f map) costs cell direction) × (direction ≤ 8)

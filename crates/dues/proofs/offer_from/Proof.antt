@@ -9,8 +9,8 @@ use Rattle.paths.specs.Graph.{MARK}
 use Rattle.floor.specs.declared.Into.the-variants.{From}
 use Rattle.floor.specs.Step.{intoOf}
 use Rattle.floor.proofs.Entering.{into-inside, offer-into}
-use Rattle.claims.proofs.tables.offer_from.Statement.{statement}
-use Rattle.claims.proofs.tables.offer_from.Tie as tie
+use Rattle.dues.proofs.offer_from.Statement.{statement}
+use Rattle.dues.proofs.offer_from.Tie as tie
 
 step-into-requires : tie.Need-step-into-requires
 step-into-requires c κs = search needs
@@ -51,7 +51,7 @@ returns-2 : tie.Need-returns-2
 returns-2 c =
     let t = c .before .before in
     let s = start t .args in
-    rw (offer-into (s .f) (s .map .now) (s .costs .now) (s .cell) (s .direction), leaves t, eq-eqb (getD (s .costs .now) (t .before .step .given .0 .0) 0) MARK (c .if1 .taken))
+    rw (offer-into (s .f) (s .map .now) (s .costs .now) (s .cell) (s .direction), leaves t, eq-eqb (getD (s .costs .now) (t .before .step .given .0 .0) 0) MARK (omega (arith, c .if1 .taken, c .before .shared-slice-known3 .given (t .before .step .given .0 .0))))
 
 sum-in-full-requires : tie.Need-sum-in-full-requires
 sum-in-full-requires c κs = search needs
@@ -61,7 +61,7 @@ returns-3 c =
     let e = c .before in
     let t = e .before .before in
     let s = start t .args in
-    rw (c .sum-in-full .ensures, offer-into (s .f) (s .map .now) (s .costs .now) (s .cell) (s .direction), leaves t, ne-eqb (getD (s .costs .now) (t .before .step .given .0 .0) 0) MARK (e .if1 .left))
+    rw (c .sum-in-full .ensures, offer-into (s .f) (s .map .now) (s .costs .now) (s .cell) (s .direction), leaves t, ne-eqb (getD (s .costs .now) (t .before .step .given .0 .0) 0) MARK (omega (arith, e .if1 .left)))
 
 pub offer-from-spec : {M : Type 1} → statement M
 offer-from-spec =

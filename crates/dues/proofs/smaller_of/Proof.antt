@@ -3,8 +3,8 @@ use mathlib.Core.Path.{ap}
 use mathlib.Core.Option.{some}
 use native.Mathlib.Omega.{arith}
 use borrow.Author.Needs.{needs}
-use Rattle.claims.proofs.tables.smaller_of.Statement.{statement}
-use Rattle.claims.proofs.tables.smaller_of.Tie as tie
+use Rattle.dues.proofs.smaller_of.Statement.{statement}
+use Rattle.dues.proofs.smaller_of.Tie as tie
 
 enum-known-a : tie.Need-enum-known-a
 enum-known-a c = search needs
