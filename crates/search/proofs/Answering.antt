@@ -1,11 +1,9 @@
 -- The last band as the promise asks: what the calls of the last band need, and their answers as rows of 01's table.
-use mathlib.Core.Path.{_≡_, sym, _∙_, ap, subst}
-use mathlib.Core.Bool.{not, _&&_}
+use mathlib.Core.Path.{_≡_, sym, _∙_, ap}
+use mathlib.Core.Logic.{_⊎_, ⊎-elim}
 use mathlib.Core.List.{List, _++_}
 use Prim.Native.Nat.{ℕ, suc, _+_, _-_, _*_, _≤_, _<_}
 use native.Mathlib.Omega.{arith}
-use borrow.Author.Tests.{leb-false, le-ltb}
-use lib.Dec.{leb, ltb}
 use lib.ListN.{length, getD, drop}
 use Rattle.paths.specs.Graph.{MARK}
 use Rattle.paths.specs.First.{firstRoute}
@@ -13,23 +11,23 @@ use Rattle.settling.specs.Order.{key}
 use Rattle.settling.specs.Answer as row
 use Rattle.settling.specs.Answer.{costsLeft}
 use Rattle.settling.specs.Cut.{cheaperThan, Agree}
-use Rattle.settling.proofs.Cuts.{wave-agrees, key-to, place-rank, place-early}
+use Rattle.settling.proofs.Cuts.{wave-agrees, key-to, rank-bound, place-rank, place-early}
 use Rattle.settling.proofs.Walking.{plain, agree-plain, near-plain}
 use Rattle.floor.specs.declared.Floor.{Floor}
 use Rattle.floor.specs.Place.{cells}
-use Rattle.floor.specs.Step.{leastStep, graph}
+use Rattle.floor.specs.Step.{graph}
 use Rattle.floor.proofs.Laws.{lawful}
 use Rattle.search.specs.declared.Answer.{Answer}
 use Rattle.search.specs.declared.Answer.the-variants.{Found, None}
 use Rattle.wave.specs.declared.Band.{Band}
-use Rattle.ranks.specs.Listed.{AmongCells, IsLeast, belowIn, keyBelow}
-use Rattle.wave.specs.Bands.{Looked, empty, looked, Rounds}
+use Rattle.ranks.specs.Listed.{AmongCells, keyBelow}
+use Rattle.wave.specs.Bands.{IsBand, Looked, none-open, is-last, is-next, Rounds}
 use Rattle.walkback.specs.Walks.{CanWalk}
 use Rattle.search.specs.Search.{Question, answered}
 use Rattle.search.specs.Last.{CanStop, StoppedAt, Arrived, CanFinish, Finished}
-use Rattle.wave.proofs.Rounds.{low-room, low-rises, next-wave, next-counted, can-look}
+use Rattle.wave.proofs.Rounds.{band-top, band-rises, band-wave, band-counted, can-look}
 use Rattle.settling.proofs.Counts.{cheaper-most}
-use Rattle.search.proofs.Ranks.{rank-bound, can-find}
+use Rattle.search.proofs.Ranks.{can-find}
 use Rattle.search.proofs.Finishing.{table, right, row-none, left-all, goal-rank, row-found, left-goal, row-stopped, left-limit}
 
 module _ {f : Floor} {m : List ℕ} {q : Question} {costs work route : List ℕ} {b : Band} (c : CanFinish f m q costs work route b) where
@@ -61,34 +59,26 @@ module _ {f : Floor} {m : List ℕ} {q : Question} {costs work route : List ℕ}
 
   -- some cell is open: the costs are right below the band's bound
   module _ (n : b .front .len ≡ 0 → ⊥) where
+    -- the band was looked at, and the goal or the limit falls in it
     record Last : Type 0 where
-      low : ℕ
-      least : IsLeast costs work (b .front .from) (b .front .len) low
-      bound : b .bound ≡ low + leastStep
-      below : b .below ≡ belowIn costs work (b .front .from) (b .front .len) (b .bound)
-      more : b .more ≡ (not (ltb (getD costs (q .goal) 0) (b .bound)) && leb (b .front .settled + b .below) (q .limit))
+      band : IsBand costs work (b .front) b
+      falls : (getD costs (q .goal) 0 < b .bound) ⊎ (q .limit < b .front .settled + b .below)
 
     last : Last
-    last = go (r .last)
+    last = go (r .looked)
       where
         go : Looked costs work (q .goal) (q .limit) (b .front) b → Last
-        go (empty z e t) = absurd (n z)
-        go (looked low p l e h k t) = record { low = low; least = l; bound = h; below = k; more = t }
+        go (none-open z e t) = absurd (n z)
+        go (is-last k t h) = record { band = k; falls = h }
+        go (is-next k t g l) = let e = r .ended in let z : _≡_ {A = ℕ} 0 1 = cc in absurd (omega arith)
 
     top : b .bound ≤ MARK
-    top = omega (arith, last .bound, low-room (r .between) (last .least))
-
-    rises : b .front .bound ≤ b .bound
-    rises = omega (arith, last .bound, low-rises (r .between) (last .least))
+    top = band-top (r .between) (last .band)
 
     agrees : Agree (table f m q costs work (b .front) (r .between)) costs (b .bound)
     agrees =
-        subst (Agree (table f m q costs work (b .front) (r .between)) costs) (sym (last .bound))
-        (wave-agrees (lawful f m (r .between .passed)) (q .start) (table f m q costs work (b .front) (r .between)) (right f m q costs work (b .front) (r .between))
-        (next-wave (r .between) (last .least)))
-
-    counted : b .front .settled + b .below ≡ cheaperThan costs (b .bound)
-    counted = omega (arith, last .below, rw (sym (last .bound)) at (next-counted (r .between) (last .least)))
+        wave-agrees (lawful f m (r .between .passed)) (q .start) (table f m q costs work (b .front) (r .between)) (right f m q costs work (b .front) (r .between))
+        (band-wave (r .between) (last .band))
 
     abbrev pub goalPlace : ℕ
     goalPlace = b .front .settled + keyBelow costs work (b .front .from) (b .front .len) (key costs (q .goal))
@@ -99,7 +89,7 @@ module _ {f : Floor} {m : List ℕ} {q : Question} {costs work route : List ℕ}
       among = listed;
       small = omega (arith, covers, few);
       within = r .within;
-      find = can-find (r .between) (b .bound) rises top (q .limit - b .front .settled) (omega (arith, r .within));
+      find = can-find (r .between) (b .bound) (band-rises (r .between) (last .band)) top (q .limit - b .front .settled) (omega (arith, r .within));
     }
 
     pub finished-stopped : (getD costs (q .goal) 0 < b .bound → q .limit ≤ goalPlace) → {a : Answer} {costs′ : List ℕ}
@@ -122,9 +112,7 @@ module _ {f : Floor} {m : List ℕ} {q : Question} {costs work route : List ℕ}
 
     -- the goal is not below the band's bound: the band was the last because of the limit
     pub limit-falls : b .bound ≤ getD costs (q .goal) 0 → q .limit < cheaperThan costs (b .bound)
-    limit-falls h =
-        let e = rw (le-ltb (getD costs (q .goal) 0) (b .bound) h) at (sym (r .ended) ∙ last .more) in
-        omega (arith, counted, leb-false (b .front .settled + b .below) (q .limit) (sym e))
+    limit-falls h = ⊎-elim (λ g. absurd (omega arith)) (λ l. omega (arith, band-counted (r .between) (last .band))) (last .falls)
 
     -- the goal is below it
     module _ (below : getD costs (q .goal) 0 < b .bound) where

@@ -1,30 +1,19 @@
--- The rank of a key from a band's bound on: the settled cells come before it, and of the listed ones those with a smaller key; paths counts them.
+-- The rank of a key from a band's bound on: the settled cells come before it, and of the listed ones those with a smaller key; settling counts them.
 use mathlib.Core.Path.{_≡_, _∙_, ap}
 use mathlib.Core.List.{List}
-use Prim.Native.Nat.{ℕ, suc, _+_, _*_, _≤_, _<_}
+use Prim.Native.Nat.{ℕ, _+_, _*_, _≤_, _<_}
 use native.Mathlib.Omega.{arith}
 use native.Mathlib.Decide.{decLt}
-use lib.Dec.{ltb, ltb→lt, lt→ltb}
-use lib.ListN.{length, getD}
 use Rattle.paths.specs.Graph.{MARK}
-use Rattle.settling.specs.Order.{key}
 use Rattle.settling.specs.Cut.{cheaperThan, rank}
-use Rattle.paths.proofs.Below.{count-same}
 use Rattle.settling.proofs.Fronts.{front-rank}
+use Rattle.settling.proofs.Cuts.{rank-bound}
 use Rattle.floor.specs.declared.Floor.{Floor}
 use Rattle.floor.specs.Place.{cells}
 use Rattle.floor.proofs.Laws.{lawful}
 use Rattle.wave.specs.declared.Front.{Front}
 use Rattle.wave.specs.Bands.{Between}
-use Rattle.ranks.specs.Listed.{keyBelow, CanFind, IsNext}
-
--- before a cost's first key come the cells of a smaller cost
-pub rank-bound : (costs : List ℕ) → length costs ≤ MARK → (c : ℕ) → rank costs (c * 4294967296) ≡ cheaperThan costs c
-unfolding rank cheaperThan key
-rank-bound costs few c =
-    count-same (λ v. ltb (key costs v) (c * 4294967296)) (λ v. ltb (getD costs v 0) c) (length costs)
-    (λ v h t. let l = ltb→lt (key costs v) (c * 4294967296) t in lt→ltb (getD costs v 0) c (omega arith))
-    (λ v h t. let l = ltb→lt (getD costs v 0) c t in lt→ltb (key costs v) (c * 4294967296) (omega arith))
+use Rattle.ranks.specs.Listed.{keyBelow, CanFind}
 
 module _ {f : Floor} {m : List ℕ} {s : ℕ} {costs work : List ℕ} {o : Front} (b : Between f m s costs work o) where
   few : cells f ≤ MARK
@@ -50,11 +39,3 @@ module _ {f : Floor} {m : List ℕ} {s : ℕ} {costs work : List ℕ} {o : Front
         higher : Dec (o .bound < c) → o .bound * 4294967296 < c * 4294967296
         higher (yes h) = omega arith
         higher (no h) = let e : c ≡ o .bound = omega arith in absurd (omega (arith, ap (cheaperThan costs) e, b .settled))
-
-    -- and that key has the place among all cells
-    pub next-ranks : (k : ℕ) → IsNext costs work (o .from) (o .len) (o .bound * 4294967296) (c * 4294967296) place k
-        → (rank costs k ≤ o .settled + place) × (o .settled + place < rank costs (suc k))
-    next-ranks k x = (
-      omega (arith, rank-listed k (x .from-low) (omega (arith, x .to-high)), x .before),
-      omega (arith, rank-listed (suc k) (omega (arith, x .from-low)) (omega (arith, x .to-high)), x .after),
-    )

@@ -18,7 +18,7 @@ use Rattle.paths.specs.Table.{Right}
 use Rattle.settling.specs.Order.{key, known, L, place}
 use Rattle.settling.specs.Answer.{costsLeft}
 use Rattle.settling.specs.Wave.{Wave}
-use Rattle.settling.specs.Cut.{rank, cut, Agree}
+use Rattle.settling.specs.Cut.{cheaperThan, rank, cut, Agree}
 use Rattle.paths.proofs.Bools.{dec-T, T-and, and-T}
 use Rattle.paths.proofs.Below.{count-mono, count-strict, count-same, count-one-more, count-gap, length-values, getD-values}
 use Rattle.paths.proofs.Exists.{least-unique}
@@ -77,6 +77,14 @@ key-to l v c h b = omega arith
 pub key-cost : (l : List ℕ) (v : ℕ) → v ≤ MARK → key l v / 4294967296 ≡ getD l v 0
 unfolding key
 key-cost l v h = digits-div (getD l v 0) {m = 4294967296} (omega arith)
+
+-- before a cost's first key come the cells of a smaller cost
+pub rank-bound : (costs : List ℕ) → length costs ≤ MARK → (c : ℕ) → rank costs (c * 4294967296) ≡ cheaperThan costs c
+unfolding rank cheaperThan key
+rank-bound costs few c =
+    count-same (λ v. ltb (key costs v) (c * 4294967296)) (λ v. ltb (getD costs v 0) c) (length costs)
+    (λ v h t. let l = ltb→lt (key costs v) (c * 4294967296) t in lt→ltb (getD costs v 0) c (omega arith))
+    (λ v h t. let l = ltb→lt (getD costs v 0) c t in lt→ltb (key costs v) (c * 4294967296) (omega arith))
 
 module _ (t costs : List ℕ) (bound : ℕ) (a : Agree t costs bound) (top : bound ≤ MARK) (few : length t ≤ MARK) where
   -- a key below a cost's keys belongs to a smaller cost, and back
@@ -213,3 +221,13 @@ module _ (t costs : List ℕ) (bound : ℕ) (a : Agree t costs bound) (top : bou
       go : (u : ℕ) → key costs u < suc k → (T (ltb (key costs u) k) → ⊥) → Dec (key costs u < k) → key costs u ≡ k
       go u l n (yes m) = absurd (n (lt→ltb (key costs u) k m))
       go u l n (no m) = omega arith
+
+module _ {g : Graph} {least most : ℕ} (law : Lawful g least most) (s : ℕ) {costs : List ℕ} {bound : ℕ} {waiting later : List ℕ}
+    (w : Wave g least s costs bound waiting later) where
+  -- a settled cell has a place in L below the number of settled cells
+  pub settled-early : (v : ℕ) → v < g .cells → getD costs v 0 < bound → (t : List ℕ) → Right g s t → place v (L t) < cheaperThan costs bound
+  settled-early v h b t right =
+      let a = wave-agrees law s t right w in
+      let few : length t ≤ MARK = omega (arith, right .covers, law .cells-fit) in
+      let p = place-early t costs bound a (w .top) few (bound * 4294967296) (omega arith) v (omega (arith, right .covers)) (key-to costs v bound (omega (arith, law .cells-fit)) b) in
+      omega (arith, p, rank-bound costs (omega (arith, w .covers, law .cells-fit)) bound)

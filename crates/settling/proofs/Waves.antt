@@ -307,14 +307,14 @@ module _ {g : Graph} {least most : ℕ} (law : Lawful g least most) (s : ℕ) wh
         let a = rw (x .arrives) at (along ds s 0 (x .allowed) (omega (arith, w .origin)) (omega arith)) in
         omega (arith, a)
 
-    -- the bound rises: those that waited for later are the next band
-    pub advance : bound ≤ low → low + least ≤ MARK → Wave g least s costs (low + least) later []
-    advance rises fits = record {
+    -- the bound rises, by one least step above `low` at most: those that waited for later are the next band
+    pub advance : bound ≤ low → (c : ℕ) → low < c → c ≤ low + least → c ≤ MARK → Wave g least s costs c later []
+    advance rises c above narrow fits = record {
       covers = w .covers;
       small = w .small;
       origin = w .origin;
       sound = w .sound;
-      reach = reached;
+      reach = λ v ds x l. reached v ds x (omega arith);
       top = fits;
       relaxed = λ v h l. go v h l (decLt (getD costs v 0) bound);
       passed = λ v h l. occ-none v;
@@ -323,7 +323,7 @@ module _ {g : Graph} {least most : ℕ} (law : Lawful g least most) (s : ℕ) wh
       near = λ v m. omega (arith, lowest v m);
     }
       where
-        go : (v : ℕ) → v < g .cells → getD costs v 0 < low + least → Dec (getD costs v 0 < bound) → Relaxed g costs v ⊎ (1 ≤ occ v later)
+        go : (v : ℕ) → v < g .cells → getD costs v 0 < c → Dec (getD costs v 0 < bound) → Relaxed g costs v ⊎ (1 ≤ occ v later)
         go v h l (yes b) = ⊎-elim inl (λ m. absurd (omega (arith, occ-none v))) (w .relaxed v h b)
         go v h l (no b) = inr (omega (arith, w .listed v h (omega arith), occ-none v, mark-not (getD costs v 0) (omega (arith, fits))))
 

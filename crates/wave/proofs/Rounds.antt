@@ -1,19 +1,18 @@
 -- Between two bands: where the search begins, what a look needs, and how a look that wants more makes the next band. Places of the list are occurrences in it.
 use mathlib.Core.Path.{_≡_, sym, _∙_, ap, subst}
 use mathlib.Core.Logic.{inl, inr, ⊎-elim}
-use mathlib.Core.Bool.{true, not}
+use mathlib.Core.Bool.{true}
 use mathlib.Core.List.{List, [], _∷_}
 use Prim.Native.Nat.{ℕ, _+_, _-_, _*_, _≤_, _<_}
 use native.Mathlib.Decide.{decLt}
 use native.Mathlib.Omega.{arith}
 use borrow.Author.Tests.{lt-ltb}
-use lib.Dec.{leb, ltb, leb→le, nltb→le}
+use lib.Dec.{ltb}
 use lib.ListN.{length, getD, set, replicate, length-set, length-replicate, getD-replicate}
 use lib.Seq.{slice, slice-cons, slice-empty, length-slice, getD-set-same, getD-set-other}
 use Rattle.paths.specs.Graph.{Lawful, MARK}
 use Rattle.settling.specs.Cut.{cheaperThan}
 use Rattle.settling.specs.Wave.{occ, Wave}
-use Rattle.paths.proofs.Bools.{true-T, T-and}
 use Rattle.settling.proofs.Waves.{begin, waits, low-fits, advance}
 use Rattle.settling.proofs.Fronts.{front-cheaper}
 use Rattle.floor.specs.declared.Floor.{Floor}
@@ -25,7 +24,7 @@ use Rattle.floor.proofs.Passing.{facts, few-cells}
 use Rattle.wave.specs.declared.Front.{Front}
 use Rattle.wave.specs.declared.Band.{Band}
 use Rattle.ranks.specs.Listed.{IsLeast, belowIn}
-use Rattle.wave.specs.Bands.{Begun, Halves, Between, ScanAt, ScannedAt, CanLook, Looked, empty, looked, OpenAt}
+use Rattle.wave.specs.Bands.{Begun, Halves, Between, ScanAt, ScannedAt, CanLook, IsBand, Looked, none-open, is-last, is-next, OpenAt}
 use Rattle.settling.proofs.Slices.{slice-at, occ-place, place-occ, tally-some}
 use Rattle.settling.proofs.Counts.{cheaper-none, cheaper-most, below-same}
 
@@ -102,25 +101,34 @@ module _ {f : Floor} {m : List ℕ} {s : ℕ} {costs work : List ℕ} {o : Front
     low-small : low ≤ MARK
     low-small = omega (arith, l .there, x .wave .small (getD work (o .from + l .place) 0))
 
-    pub low-room : low + leastStep ≤ MARK
+    low-room : low + greatestStep ≤ MARK
     low-room = omega (arith, low-fits law s (x .wave) low lowest low-small (x .starts) (getD work (o .from + l .place) 0) low-waits (l .there))
 
-    pub low-rises : o .bound ≤ low
+    low-rises : o .bound ≤ low
     low-rises = omega (arith, waits law s (x .wave) (getD work (o .from + l .place) 0) low-waits .1, l .there)
 
-    -- the list is the next band, and some of it is below the bound
-    pub next-wave : Wave (graph f m) leastStep s costs (low + leastStep) later []
-    next-wave = advance law s (x .wave) low lowest low-small low-rises low-room
+  -- the list is the next band, and some of it is below the bound
+  module _ {b : Band} (k : IsBand costs work o b) where
+    pub band-top : b .bound ≤ MARK
+    band-top = omega (arith, k .narrow, low-room (k .least))
 
-    pub next-counted : o .settled + belowIn costs work (o .from) (o .len) (low + leastStep) ≡ cheaperThan costs (low + leastStep)
-    unfolding belowIn
-    next-counted = omega (arith, x .settled, front-cheaper (x .wave) (low + leastStep) (omega (arith, low-rises)) low-room)
+    pub band-rises : o .bound ≤ b .bound
+    band-rises = omega (arith, k .above, low-rises (k .least))
 
-    next-some : 1 ≤ belowIn costs work (o .from) (o .len) (low + leastStep)
+    pub band-wave : Wave (graph f m) leastStep s costs (b .bound) later []
+    band-wave = advance law s (x .wave) (k .low) (lowest (k .least)) (low-small (k .least)) (low-rises (k .least)) (b .bound) (k .above) (k .narrow) band-top
+
+    pub band-counted : o .settled + b .below ≡ cheaperThan costs (b .bound)
     unfolding belowIn
-    next-some =
-        tally-some (λ v. ltb (getD costs v 0) (low + leastStep)) later (l .place) (omega (arith, later-length, l .place-in))
-        (rw (slice-at (o .from) (o .from + o .len) (l .place) work (omega (arith, l .place-in)), l .there) (lt-ltb low (low + leastStep) (omega arith)))
+    band-counted = omega (arith, x .settled, k .below, front-cheaper (x .wave) (b .bound) band-rises band-top)
+
+    band-some : 1 ≤ b .below
+    unfolding belowIn
+    band-some =
+        let i = k .least in
+        let p = tally-some (λ v. ltb (getD costs v 0) (b .bound)) later (i .place) (omega (arith, later-length, i .place-in))
+        (rw (slice-at (o .from) (o .from + o .len) (i .place) work (omega (arith, i .place-in)), i .there) (lt-ltb (k .low) (b .bound) (k .above))) in
+        omega (arith, p, k .below)
 
   pub can-look : (goal : ℕ) → goal < cells f → CanLook costs work goal o
   can-look goal h = record {
@@ -132,36 +140,26 @@ module _ {f : Floor} {m : List ℕ} {s : ℕ} {costs work : List ℕ} {o : Front
 
 -- a look that wants more: it says which band is next, and that neither the goal nor the limit falls in it
 record Wants (costs work : List ℕ) (goal limit : ℕ) (b : Band) : Type 0 where
-  low : ℕ
-  least : IsLeast costs work (b .front .from) (b .front .len) low
-  bound : b .bound ≡ low + leastStep
-  below : b .below ≡ belowIn costs work (b .front .from) (b .front .len) (b .bound)
+  band : IsBand costs work (b .front) b
   beyond : b .bound ≤ getD costs goal 0
   within : b .front .settled + b .below ≤ limit
 
 wants : {costs work : List ℕ} {goal limit : ℕ} {b : Band} → Looked costs work goal limit (b .front) b → b .more ≡ true → Wants costs work goal limit b
-wants (empty z e n) t = let c : _≡_ {A = ℕ} 0 1 = cc in absurd (omega arith)
-wants {costs} {goal = goal} {limit} {b} (looked low p l e h k n) t =
-    let a = T-and (not (ltb (getD costs goal 0) (b .bound))) (leb (b .front .settled + b .below) limit) (true-T _ (sym n ∙ t)) in
-    record {
-      low = low;
-      least = l;
-      bound = h;
-      below = k;
-      beyond = nltb→le (getD costs goal 0) (b .bound) (a .0);
-      within = leb→le (b .front .settled + b .below) limit (a .1);
-    }
+wants (none-open z e n) t = let c : _≡_ {A = ℕ} 0 1 = cc in absurd (omega arith)
+wants (is-last k n r) t = let c : _≡_ {A = ℕ} 0 1 = cc in absurd (omega arith)
+wants (is-next k n r l) t = record { band = k; beyond = r; within = l }
 
 looked-front : {costs work : List ℕ} {goal limit : ℕ} {o : Front} {b : Band} → Looked costs work goal limit o b → b .front ≡ o
-looked-front (empty z e n) = e
-looked-front (looked low p l e h k n) = e
+looked-front (none-open z e n) = e
+looked-front (is-last k n r) = k .front
+looked-front (is-next k n r l) = k .front
 
 -- what holds of each band that was looked at
 pub record Round (f : Floor) (m : List ℕ) (s goal limit : ℕ) (costs work : List ℕ) (b : Band) : Type 0 where
   pub between : Between f m s costs work (b .front)
   pub goal-open : b .front .bound ≤ getD costs goal 0
   pub within : b .front .settled ≤ limit
-  pub last : Looked costs work goal limit (b .front) b
+  pub looked : Looked costs work goal limit (b .front) b
 
 round-of : {f : Floor} {m : List ℕ} {s goal limit : ℕ} {costs work : List ℕ} {o : Front} {b : Band} → Between f m s costs work o
     → o .bound ≤ getD costs goal 0 → o .settled ≤ limit → Looked costs work goal limit o b → Round f m s goal limit costs work b
@@ -171,7 +169,7 @@ round-of {f} {m} {s} {goal} {limit} {costs} {work} {b = b} x g w l =
       between = subst (Between f m s costs work) e x;
       goal-open = subst (λ (o : Front). o .bound ≤ getD costs goal 0) e g;
       within = subst (λ (o : Front). o .settled ≤ limit) e w;
-      last = subst (λ (o : Front). Looked costs work goal limit o b) e l;
+      looked = subst (λ (o : Front). Looked costs work goal limit o b) e l;
     }
 
 -- the first look from a front that the goal and the limit lie beyond
@@ -184,7 +182,7 @@ module _ {f : Floor} {m : List ℕ} {s goal limit : ℕ} {costs work : List ℕ}
     between = x .between;
     goal-open = x .goal-open;
     within = x .within;
-    last = subst (λ (o : Front). Looked costs work goal limit o b) (sym (looked-front l)) l;
+    looked = subst (λ (o : Front). Looked costs work goal limit o b) (sym (looked-front l)) l;
   }
 
 -- the look wants more, so the band is scanned
@@ -193,14 +191,17 @@ module _ {f : Floor} {m : List ℕ} {s goal limit : ℕ} {costs work : List ℕ}
   x = r .between
 
   abbrev q : Wants costs work goal limit b
-  q = wants (r .last) t
+  q = wants (r .looked) t
 
   pub round-scan : ScanAt f m s costs work b
   round-scan = record {
     between = x;
-    counted = omega (arith, q .below, rw (sym (q .bound)) at (next-counted x (q .least)));
-    band = record { passed = x .passed; starts = x .starts; halves = band-halves x; wave = rw (q .bound, slice-empty (length costs - b .front .from) work) (next-wave x (q .least)) };
+    counted = band-counted x (q .band);
+    band = record { passed = x .passed; starts = x .starts; halves = band-halves x; wave = rw (slice-empty (length costs - b .front .from) work) (band-wave x (q .band)) };
   }
+
+  pub round-within : b .front .settled + b .below ≤ limit
+  round-within = q .within
 
   -- after that the goal and the limit are still not reached
   module _ {costs′ work′ : List ℕ} {o : Front} (y : ScannedAt f m s b costs′ work′ o) where
@@ -217,5 +218,4 @@ module _ {f : Floor} {m : List ℕ} {s goal limit : ℕ} {costs work : List ℕ}
     -- at least one cell more is settled
     pub fewer-left : {b′ : Band} → Looked costs′ work′ goal limit o b′ → cells f - b′ .front .settled < cells f - b .front .settled
     fewer-left l =
-        let e : 1 ≤ b .below = omega (arith, q .below, rw (sym (q .bound)) at (next-some x (q .least))) in
-        omega (arith, ap (λ (o : Front). o .settled) (looked-front l), y .counted, y .between .settled, cheaper-most costs′ (o .bound), y .between .wave .covers)
+        omega (arith, band-some x (q .band), ap (λ (o : Front). o .settled) (looked-front l), y .counted, y .between .settled, cheaper-most costs′ (o .bound), y .between .wave .covers)

@@ -7,6 +7,9 @@ use native.Mathlib.Omega.{arith}
 use lib.ListN.{length, getD, set}
 use lib.Seq.{slice, slice-empty}
 use Rattle.paths.specs.Graph.{Lawful}
+use Rattle.settling.specs.Cut.{cheaperThan}
+use Rattle.settling.proofs.Counts.{cheaper-same}
+use Rattle.settling.proofs.Cuts.{settled-early}
 use Rattle.settling.proofs.Waves.{occ-here, next-inside, next-done, next-kept, take-all}
 use Rattle.floor.specs.declared.Floor.{Floor}
 use Rattle.floor.specs.Place.{cells}
@@ -14,9 +17,8 @@ use Rattle.floor.specs.Step.{leastStep, greatestStep, graph}
 use Rattle.floor.proofs.Laws.{lawful}
 use Rattle.wave.specs.declared.Front.{Front}
 use Rattle.wave.specs.declared.Band.{Band}
-use Rattle.wave.specs.Bands.{Halves, InBand, TakingAt, ScanAt, ScannedAt}
+use Rattle.wave.specs.Bands.{Halves, InBand, TakingAt, IsWithin, ScanAt, ScannedAt}
 use Rattle.wave.proofs.Offers.{pushed, room-left, band-first}
-use Rattle.settling.proofs.Counts.{cheaper-same}
 
 -- the band without its first cell
 next-halves : {n : ℕ} {work : List ℕ} {at stop other end : ℕ} → Halves n work at stop other end → at < stop → Halves n work (at + 1) stop other end
@@ -39,6 +41,10 @@ module _ {f : Floor} {m : List ℕ} {s : ℕ} {costs work : List ℕ} {bound at 
   -- before its first step
   pub first-taking : getD costs (getD work at 0) 0 < bound → TakingAt f m s bound at stop other costs work end (getD work at 0) 0
   first-taking h = record { band = b; before = l; first = refl; taking = record { wave = b .wave; below = h; offered = λ d k t. absurd (omega arith) } }
+
+  -- it is within the limit, if all cells below the bound are
+  pub first-within : (limit : ℕ) → cheaperThan costs bound ≤ limit → getD costs (getD work at 0) 0 < bound → IsWithin f m s limit (getD work at 0)
+  first-within limit few h = λ t right. omega (arith, settled-early law s (b .wave) (getD work at 0) first-inside h t right)
 
   -- it waits for a later band
   module _ (h : bound ≤ getD costs (getD work at 0) 0) where
@@ -65,6 +71,11 @@ first-done {f} {m} {s} x =
       wave = next-done law s (rw (x .first) at (band-first (x .band) (x .before))) (x .taking .below) (take-all law s (x .taking));
     }
 
+-- the cells below the bound stay as many while the band is looked at
+pub band-same : {f : Floor} {m : List ℕ} {s : ℕ} {costs work costs′ work′ : List ℕ} {bound at stop other end at′ stop′ other′ end′ : ℕ}
+    → InBand f m s costs work bound at stop other end → InBand f m s costs′ work′ bound at′ stop′ other′ end′ → cheaperThan costs′ bound ≡ cheaperThan costs bound
+band-same {f} {m} {s} x y = cheaper-same (lawful f m (y .passed)) s (x .wave) (y .wave)
+
 -- after the last cell
 abbrev frontAfter : ℕ → Band → ℕ → Front
 frontAfter n b end = record { from = n - b .front .from; len = end - (n - b .front .from); bound = b .bound; settled = b .front .settled + b .below }
@@ -84,7 +95,7 @@ band-done {f} {m} {s} {costs} {work′ = work′} {b} {end} x y e =
         room = e ∙ x .between .room;
         few = omega (arith, y .halves);
         wave = rw (z, ← slice-empty (b .front .from + b .front .len) work′) (y .wave);
-        settled = x .counted ∙ sym (cheaper-same (lawful f m (y .passed)) s (x .band .wave) (y .wave));
+        settled = x .counted ∙ sym (band-same (x .band) y);
       };
       bound = refl;
       counted = refl;

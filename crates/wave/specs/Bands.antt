@@ -2,18 +2,19 @@
 -- hand, from place `at` to place `stop`, in the other those that wait for a later one, from `other` to `end`.
 use mathlib.Core.Path.{_≡_}
 use mathlib.Core.Logic.{_≢_, _⊎_}
-use mathlib.Core.Bool.{false, not, _&&_}
+use mathlib.Core.Bool.{true, false}
 use mathlib.Core.List.{List, []}
 use Prim.Native.Nat.{ℕ, _+_, _-_, _*_, _≤_, _<_}
-use lib.Dec.{leb, ltb}
 use lib.ListN.{length, getD, set, replicate}
 use lib.Seq.{slice}
 use Rattle.paths.specs.Graph.{MARK}
+use Rattle.paths.specs.Table.{Right}
 use Rattle.settling.specs.Wave.{Wave, Taking}
-use Rattle.settling.specs.Cut.{tally, cheaperThan}
+use Rattle.settling.specs.Order.{L, place}
+use Rattle.settling.specs.Cut.{cheaperThan}
 use Rattle.floor.specs.declared.Floor.{Floor}
 use Rattle.floor.specs.Place.{cells}
-use Rattle.floor.specs.Step.{leastStep, graph}
+use Rattle.floor.specs.Step.{leastStep, greatestStep, graph}
 use Rattle.floor.specs.Refusal.{HasPassed}
 use Rattle.ranks.specs.Listed.{AmongCells, IsLeast, belowIn}
 use Rattle.wave.specs.declared.Front.{Front}
@@ -74,13 +75,23 @@ Took f m costs work end cell d d′ costs′ work′ end′ =
     (s bound at stop other : ℕ) → TakingAt f m s bound at stop other costs work end cell d
     → TakingAt f m s bound at stop other costs′ work′ end′ cell d′
 
+-- 01: the search settles cells "up to a limit": cell v is among the first `limit` cells of L
+abbrev pub IsWithin : Floor → List ℕ → ℕ → ℕ → ℕ → Type 0
+IsWithin f m s limit v = (t : List ℕ) → Right (graph f m) s t → place v (L t) < limit
+
+-- all steps from a cell, which is within the limit
+pub record CanTakeAll (f : Floor) (m costs work : List ℕ) (end cell limit : ℕ) : Type 0 where
+  pub can : CanTake f m costs work end cell 0
+  pub within : IsWithin f m (can .s) limit cell
+
 -- one cell of the band
-pub record CanVisit (f : Floor) (m costs work : List ℕ) (at end bound : ℕ) : Type 0 where
+pub record CanVisit (f : Floor) (m costs work : List ℕ) (at end bound limit : ℕ) : Type 0 where
   pub s : ℕ
   pub stop : ℕ
   pub other : ℕ
   pub here : InBand f m s costs work bound at stop other end
   pub before : at < stop
+  pub within : cheaperThan costs bound ≤ limit
 
 abbrev pub Visited : Floor → List ℕ → List ℕ → List ℕ → ℕ → ℕ → ℕ → List ℕ → List ℕ → ℕ → Type 0
 Visited f m costs work at end bound costs′ work′ end′ =
@@ -102,9 +113,10 @@ pub record ScanAt (f : Floor) (m : List ℕ) (s : ℕ) (costs work : List ℕ) (
   pub counted : b .front .settled + b .below ≡ cheaperThan costs (b .bound)
   pub band : InBand f m s costs work (b .bound) (b .front .from) (b .front .from + b .front .len) (length costs - b .front .from) (length costs - b .front .from)
 
-pub record CanScan (f : Floor) (m costs work : List ℕ) (b : Band) : Type 0 where
+pub record CanScan (f : Floor) (m costs work : List ℕ) (b : Band) (limit : ℕ) : Type 0 where
   pub s : ℕ
   pub here : ScanAt f m s costs work b
+  pub within : b .front .settled + b .below ≤ limit
 
 pub record ScannedAt (f : Floor) (m : List ℕ) (s : ℕ) (b : Band) (costs′ work′ : List ℕ) (o : Front) : Type 0 where
   pub between : Between f m s costs′ work′ o
@@ -117,14 +129,23 @@ Scanned f m costs work b costs′ work′ o = (s : ℕ) → ScanAt f m s costs w
 pub record CanLook (costs work : List ℕ) (goal : ℕ) (o : Front) : Type 0 where
   pub inside : goal < length costs
   pub among : AmongCells (length costs) work (o .from) (o .len)
-  pub fits : (low : ℕ) → IsLeast costs work (o .from) (o .len) low → low + leastStep ≤ MARK
+  pub fits : (low : ℕ) → IsLeast costs work (o .from) (o .len) low → low + greatestStep ≤ MARK
   pub small : o .settled + o .len ≤ MARK
 
+-- The next band: it begins at the least cost of the open cells and is no wider than the least step, so that none of its cells can still get cheaper
+pub record IsBand (costs work : List ℕ) (o : Front) (b : Band) : Type 0 where
+  pub front : b .front ≡ o
+  pub low : ℕ
+  pub least : IsLeast costs work (o .from) (o .len) low
+  pub above : low < b .bound
+  pub narrow : b .bound ≤ low + leastStep
+  pub below : b .below ≡ belowIn costs work (o .from) (o .len) (b .bound)
+
+-- a look: no cell is open; or the goal or the limit falls in the next band; or neither does, and its steps are to be taken
 pub data Looked (costs work : List ℕ) (goal limit : ℕ) (o : Front) (b : Band) : Type 0 where
-  empty : o .len ≡ 0 → b .front ≡ o → b .more ≡ false → Looked costs work goal limit o b
-  looked : (low : ℕ) → 0 < o .len → IsLeast costs work (o .from) (o .len) low → b .front ≡ o → b .bound ≡ low + leastStep
-      → b .below ≡ belowIn costs work (o .from) (o .len) (b .bound)
-      → b .more ≡ (not (ltb (getD costs goal 0) (b .bound)) && leb (o .settled + b .below) limit) → Looked costs work goal limit o b
+  none-open : o .len ≡ 0 → b .front ≡ o → b .more ≡ false → Looked costs work goal limit o b
+  is-last : IsBand costs work o b → b .more ≡ false → (getD costs goal 0 < b .bound) ⊎ (limit < o .settled + b .below) → Looked costs work goal limit o b
+  is-next : IsBand costs work o b → b .more ≡ true → b .bound ≤ getD costs goal 0 → o .settled + b .below ≤ limit → Looked costs work goal limit o b
 
 -- the goal and the limit lie beyond the front
 pub record OpenAt (f : Floor) (m : List ℕ) (s : ℕ) (costs work : List ℕ) (goal limit : ℕ) (o : Front) : Type 0 where
@@ -142,7 +163,7 @@ pub record Rounds (f : Floor) (m : List ℕ) (s goal limit : ℕ) (costs work : 
   pub between : Between f m s costs work (b .front)
   pub goal-open : b .front .bound ≤ getD costs goal 0
   pub within : b .front .settled ≤ limit
-  pub last : Looked costs work goal limit (b .front) b
+  pub looked : Looked costs work goal limit (b .front) b
   pub ended : b .more ≡ false
 
 abbrev pub GoneOn : Floor → List ℕ → List ℕ → List ℕ → ℕ → ℕ → Front → List ℕ → List ℕ → Band → Type 0

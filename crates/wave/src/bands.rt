@@ -5,7 +5,7 @@ ghost use lib.ListN.{length, replicate};
 ghost use Rattle.paths.specs.Graph.{MARK};
 ghost use Rattle.floor.specs.Place.{cells};
 ghost use Rattle.floor.specs.Refusal.{HasPassed};
-ghost use Rattle.wave.specs.Bands.{Begun, CanSee, Seen, CanTake, Took, CanVisit, Visited, CanScan, Scanned, CanLook, Looked, CanGoOn, GoneOn, Rounds};
+ghost use Rattle.wave.specs.Bands.{Begun, CanSee, Seen, CanTake, Took, CanTakeAll, CanVisit, Visited, CanScan, Scanned, CanLook, Looked, CanGoOn, GoneOn, Rounds};
 use crate::Band;
 use crate::Front;
 use floor::Floor;
@@ -79,6 +79,7 @@ fn take_step(
     see(costs, work, end, to, base + cost)
 }
 
+// All steps from a cell of the band. The limit is here for the contract, which asks that the cell is within it.
 fn take_steps(
     f: Floor,
     map: &[u8],
@@ -86,8 +87,9 @@ fn take_steps(
     work: &mut [u32],
     end: usize,
     cell: usize,
+    limit: usize,
 ) -> usize
-    requires { ⌜ CanTake f (now map) (now costs) (now work) end cell 0 ⌝ }
+    requires { ⌜ CanTakeAll f (now map) (now costs) (now work) end cell limit ⌝ }
     ensures { λ r. ⌜ Took f (now (map .entry)) (now (costs .entry)) (now (work .entry)) end cell 0 8 (now (costs .exit)) (now (work .exit)) r ⌝ }
 {
     let mut last = end;
@@ -108,21 +110,29 @@ fn visit(
     at: usize,
     end: usize,
     bound: u32,
+    limit: usize,
 ) -> usize
-    requires { ⌜ CanVisit f (now map) (now costs) (now work) at end bound ⌝ }
+    requires { ⌜ CanVisit f (now map) (now costs) (now work) at end bound limit ⌝ }
     ensures { λ r. ⌜ Visited f (now (map .entry)) (now (costs .entry)) (now (work .entry)) at end bound (now (costs .exit)) (now (work .exit)) r ⌝ }
 {
     let cell = work[at] as usize;
     if costs[cell] < bound {
-        return take_steps(f, map, costs, work, end, cell);
+        return take_steps(f, map, costs, work, end, cell, limit);
     }
     work[end] = cell as u32;
     end + 1
 }
 
 // A whole band: the list in one half is looked at, and the other half gets those that wait.
-fn scan(f: Floor, map: &[u8], costs: &mut [u32], work: &mut [u32], band: Band) -> Front
-    requires { ⌜ CanScan f (now map) (now costs) (now work) band ⌝ }
+fn scan(
+    f: Floor,
+    map: &[u8],
+    costs: &mut [u32],
+    work: &mut [u32],
+    band: Band,
+    limit: usize,
+) -> Front
+    requires { ⌜ CanScan f (now map) (now costs) (now work) band limit ⌝ }
     ensures { λ r. ⌜ Scanned f (now (map .entry)) (now (costs .entry)) (now (work .entry)) band (now (costs .exit)) (now (work .exit)) r ⌝ }
 {
     let front = band.front;
@@ -133,7 +143,7 @@ fn scan(f: Floor, map: &[u8], costs: &mut [u32], work: &mut [u32], band: Band) -
     let mut end = other;
     let mut at = first;
     while at < stop {
-        end = visit(f, map, costs, work, at, end, bound);
+        end = visit(f, map, costs, work, at, end, bound, limit);
         at += 1;
     }
     Front {
@@ -163,20 +173,23 @@ fn look(costs: &[u32], work: &[u32], goal: usize, limit: usize, front: Front) ->
     // As wide as the least step: no cell of the band can still get cheaper.
     let bound = least_cost(costs, work, from, len) + LEAST_STEP;
     let below = count_below(costs, work, from, len, bound);
+    let last = Band {
+        front,
+        bound,
+        below,
+        more: false,
+    };
     if costs[goal] < bound {
-        return Band {
-            front,
-            bound,
-            below,
-            more: false,
-        };
+        return last;
     }
-    let within = settled + below <= limit;
+    if limit < settled + below {
+        return last;
+    }
     Band {
         front,
         bound,
         below,
-        more: within,
+        more: true,
     }
 }
 
@@ -196,7 +209,7 @@ pub fn go_on(
     let mut band = look(costs, work, goal, limit, front);
     let mut more = band.more;
     while more {
-        let next = scan(f, map, costs, work, band);
+        let next = scan(f, map, costs, work, band, limit);
         band = look(costs, work, goal, limit, next);
         more = band.more;
     }

@@ -50,7 +50,8 @@ returns-2 : tie.Need-returns-2
 returns-2 c =
     let t = c .before .before in
     let s = start t in
-    no-cost (s .args .f) (s .args .map .now) (s .args .costs .now) (s .args .cell) (s .args .direction) _ _ (leaves t) (c .if1 .taken)
+    no-cost (s .args .f) (s .args .map .now) (s .args .costs .now) (s .args .cell) (s .args .direction) _ _ (leaves t)
+    (omega (arith, c .if1 .taken, c .before .shared-slice-known3 .given (t .before .step .given .0 .0)))
 
 cast-sum : tie.Need-cast-sum
 cast-sum c = omega (arith, c .before .shared-slice-known3 .given (c .before .before .before .step .given .0 .0))
@@ -75,14 +76,16 @@ returns-3 c =
     let e = c .before .before in
     let t = e .before .before in
     let s = start t in
-    gives-sum (s .args .f) (s .args .map .now) (s .args .costs .now) (s .args .cell) (s .args .direction) _ _ (leaves t) (e .if1 .left) (c .if2 .taken)
+    gives-sum (s .args .f) (s .args .map .now) (s .args .costs .now) (s .args .cell) (s .args .direction) _ _ (leaves t)
+    (omega (arith, e .if1 .left)) (c .if2 .taken)
 
 returns-4 : tie.Need-returns-4
 returns-4 c =
     let e = c .before .before in
     let t = e .before .before in
     let s = start t in
-    no-sum (s .args .f) (s .args .map .now) (s .args .costs .now) (s .args .cell) (s .args .direction) _ _ (leaves t) (e .if1 .left) (c .if2 .left)
+    no-sum (s .args .f) (s .args .map .now) (s .args .costs .now) (s .args .cell) (s .args .direction) _ _ (leaves t)
+    (omega (arith, e .if1 .left)) (c .if2 .left)
 
 pub giving-step-spec : {M : Type 1} → statement M
 giving-step-spec =

@@ -19,7 +19,7 @@ reverse-requires : tie.Need-reverse-requires
 reverse-requires c κs =
     let b = c .before .before .before .write-back in
     let s = c .before .before .before .before .before .before .before .before in
-    (omega arith, back-fits (first s) (s .args .route .now) _ _ (b .ensures .0) (b .ensures .1))
+    (omega arith, omega (arith, back-fits (first s) (s .args .route .now) (b .last .1 .1 .1 .1 .1 .0) (b .result) (b .ensures .0) (b .ensures .1)))
 
 same-length : tie.Need-same-length
 same-length c = search needs

@@ -4,7 +4,7 @@ use mathlib.Core.Bool.{true}
 use Prim.Native.Nat.{ℕ, _-_}
 use Rattle.floor.specs.Place.{cells}
 use Rattle.wave.specs.Bands.{OpenAt, ScannedAt}
-use Rattle.wave.proofs.Rounds.{Round, can-look, open-front, first-round, round-scan, next-round, fewer-left}
+use Rattle.wave.proofs.Rounds.{Round, can-look, open-front, first-round, round-scan, round-within, next-round, fewer-left}
 use Rattle.wave.proofs.bands.go_on.Statement.{statement}
 use Rattle.wave.proofs.bands.go_on.Tie as tie
 
@@ -35,7 +35,8 @@ entered c = open-front (c .look .ensures) (c .before .before .before .before .be
 scan-requires : tie.Need-scan-requires Inv-loop μ-loop
 scan-requires c κs =
     let t = c .before .before in
-    record { s = _; here = round-scan (t .before .loop .inv .0 _ (entered (t .before .before))) (more t) }
+    let r = t .before .loop .inv .0 _ (entered (t .before .before)) in
+    record { s = _; here = round-scan r (more t); within = round-within r (more t) }
 
 scanned : (c : tie.After-scan Inv-loop μ-loop) (s : ℕ) →
     let l = c .before .before .before .before in
@@ -80,7 +81,7 @@ returns : tie.Need-returns Inv-loop μ-loop
 returns c s x =
     let l = c .before in
     let i = l .loop .inv .0 s (open-front (l .before .look .ensures) x) in
-    record { between = i .between; goal-open = i .goal-open; within = i .within; last = i .last; ended = sym (l .loop .inv .1) ∙ c .loop-test .left }
+    record { between = i .between; goal-open = i .goal-open; within = i .within; looked = i .looked; ended = sym (l .loop .inv .1) ∙ c .loop-test .left }
 
 pub go-on-spec : {M : Type 1} → statement M
 go-on-spec =

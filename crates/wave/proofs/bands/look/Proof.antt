@@ -1,17 +1,16 @@
--- The first return is an empty list, and the other two are the two ways in which `more` comes out.
+-- One return for each case of `Looked`; the goal or the limit makes the band the last.
 use mathlib.Core.Path.{refl}
-use Prim.Native.Nat.{_+_}
+use mathlib.Core.Logic.{inl, inr}
+use Prim.Native.Nat.{_≤_}
 use native.Mathlib.Omega.{arith}
 use borrow.Author.Needs.{needs}
-use borrow.Author.Tests.{lt-ltb, le-ltb}
-use Rattle.floor.specs.Step.{leastStep}
-use Rattle.wave.specs.Bands.{empty, looked}
 use Rattle.ranks.proofs.Looks.{below-most}
+use Rattle.wave.specs.Bands.{none-open, is-last, is-next}
 use Rattle.wave.proofs.bands.look.Statement.{statement}
 use Rattle.wave.proofs.bands.look.Tie as tie
 
 returns : tie.Need-returns
-returns c = empty (c .if1 .taken) refl refl
+returns c = none-open (c .if1 .taken) refl refl
 
 least-cost-requires : tie.Need-least-cost-requires
 least-cost-requires c κs = search needs
@@ -31,22 +30,38 @@ shared-slice-read-if2 c = search needs
 returns-2 : tie.Need-returns-2
 returns-2 c =
     let n = c .before .before in
-    let l = n .before in
-    looked (l .least-cost .result) (omega (arith, l .before .if1 .left)) (l .least-cost .ensures) refl refl (n .count-below .ensures) (rw (lt-ltb _ _ (c .if2 .taken)))
+    let l = n .before .least-cost in
+    is-last
+    (record { front = refl; low = l .result; least = l .ensures; above = omega arith; narrow = omega arith; below = n .count-below .ensures })
+    refl
+    (inl (omega (arith, c .if2 .taken)))
 
-add-within : tie.Need-add-within
-add-within c =
+add-if3 : tie.Need-add-if3
+add-if3 c =
     let n = c .before .before in
     let s = n .before .before .before .before .before in
     let o = s .args .front in
-    let most = below-most (s .args .costs .now) (s .args .work .now) (o .from) (n .before .least-cost .result + leastStep) (o .len) (s .pre .among .fits) in
-    omega (arith, most, n .count-below .ensures, s .pre .small)
+    let most : n .count-below .result ≤ o .len = rw (n .count-below .ensures) (below-most (s .args .costs .now) (s .args .work .now) (o .from) _ (o .len) (s .pre .among .fits)) in
+    omega (arith, most, s .pre .small)
 
 returns-3 : tie.Need-returns-3
 returns-3 c =
-    let n = c .before .before in
-    let l = n .before in
-    looked (l .least-cost .result) (omega (arith, l .before .if1 .left)) (l .least-cost .ensures) refl refl (n .count-below .ensures) (rw (le-ltb _ _ (c .if2 .left)))
+    let n = c .before .before .before in
+    let l = n .before .least-cost in
+    is-last
+    (record { front = refl; low = l .result; least = l .ensures; above = omega arith; narrow = omega arith; below = n .count-below .ensures })
+    refl
+    (inr (omega (arith, c .if3 .taken)))
+
+returns-4 : tie.Need-returns-4
+returns-4 c =
+    let n = c .before .before .before in
+    let l = n .before .least-cost in
+    is-next
+    (record { front = refl; low = l .result; least = l .ensures; above = omega arith; narrow = omega arith; below = n .count-below .ensures })
+    refl
+    (omega (arith, c .before .if2 .left))
+    (omega (arith, c .if3 .left))
 
 pub look-spec : {M : Type 1} → statement M
 look-spec =
@@ -59,5 +74,6 @@ look-spec =
     mul-if2
     shared-slice-read-if2
     returns-2
-    add-within
-    returns-3)
+    add-if3
+    returns-3
+    returns-4)

@@ -6,17 +6,17 @@ use native.Mathlib.Omega.{arith}
 use lib.ListN.{length}
 use Rattle.wave.specs.Bands.{InBand, ScanAt}
 use Rattle.settling.proofs.Counts.{cheaper-most}
-use Rattle.wave.proofs.Visits.{band-done}
+use Rattle.wave.proofs.Visits.{band-same, band-done}
 use Rattle.wave.proofs.bands.scan.Statement.{statement}
 use Rattle.wave.proofs.bands.scan.Tie as tie
 
 abbrev Inv-loop : tie.InvT-loop
-Inv-loop f map costs₀ work₀ band front bound first other stop end₀ at₀ costs work end at =
+Inv-loop f map costs₀ work₀ band limit front bound first other stop end₀ at₀ costs work end at =
     (at ≤ stop) × ((s : ℕ) → ScanAt f map s costs₀ work₀ band → InBand f map s costs work bound at stop other end)
     × (length costs ≡ length costs₀) × (length work ≡ length work₀)
 
 abbrev μ-loop : tie.MeasureT-loop
-μ-loop f map costs₀ work₀ band front bound first other stop end₀ at₀ costs work end at = stop - at
+μ-loop f map costs₀ work₀ band limit front bound first other stop end₀ at₀ costs work end at = stop - at
 
 sub-other : tie.Need-sub-other Inv-loop μ-loop
 sub-other c =
@@ -33,7 +33,15 @@ visit-requires : tie.Need-visit-requires Inv-loop μ-loop
 visit-requires c κs =
     let l = c .before .before .before in
     let p = l .before .before .before .before .before .before .pre in
-    record { s = p .s; stop = _; other = _; here = l .loop .inv .1 (p .s) (p .here); before = c .before .before .loop-test .taken }
+    let b = l .loop .inv .1 (p .s) (p .here) in
+    record {
+      s = p .s;
+      stop = _;
+      other = _;
+      here = b;
+      before = c .before .before .loop-test .taken;
+      within = omega (arith, band-same (p .here .band) b, p .here .counted, p .within);
+    }
 
 add-at : tie.Need-add-at Inv-loop μ-loop
 add-at c = omega arith
@@ -52,13 +60,13 @@ loop-again c =
       v .visit .kept .1 .1 .1 .0 ∙ i .3,
     )
 
-sub-t13 : tie.Need-sub-t13 Inv-loop μ-loop
-sub-t13 c =
+sub-t14 : tie.Need-sub-t14 Inv-loop μ-loop
+sub-t14 c =
     let p = c .before .before .before .before .before .before .before .pre in
     omega (arith, c .before .loop .inv .1 (p .s) (p .here) .halves)
 
-add-t19 : tie.Need-add-t19 Inv-loop μ-loop
-add-t19 c =
+add-t20 : tie.Need-add-t20 Inv-loop μ-loop
+add-t20 c =
     let s = c .before .before .before .before .before .before .before .before .before in
     omega (arith, s .pre .here .counted, cheaper-most (s .args .costs .now) (s .args .band .bound))
 
@@ -88,8 +96,8 @@ scan-spec =
     add-at
     loop-less
     loop-again
-    sub-t13
-    add-t19
+    sub-t14
+    add-t20
     same-length
     same-length-2
     returns)

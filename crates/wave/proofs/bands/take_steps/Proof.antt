@@ -8,18 +8,18 @@ use Rattle.wave.proofs.bands.take_steps.Statement.{statement}
 use Rattle.wave.proofs.bands.take_steps.Tie as tie
 
 abbrev Inv-loop : tie.InvT-loop
-Inv-loop f map costs₀ work₀ end cell last₀ direction₀ costs work last direction =
+Inv-loop f map costs₀ work₀ end cell limit last₀ direction₀ costs work last direction =
     (direction ≤ 8) × Took f map costs₀ work₀ end cell 0 direction costs work last × (length costs ≡ length costs₀) × (length work ≡ length work₀)
 
 abbrev μ-loop : tie.MeasureT-loop
-μ-loop f map costs₀ work₀ end cell last₀ direction₀ costs work last direction = 8 - direction
+μ-loop f map costs₀ work₀ end cell limit last₀ direction₀ costs work last direction = 8 - direction
 
 loop-holds : tie.Need-loop-holds Inv-loop μ-loop
 loop-holds c = (omega arith, (λ s bound at stop other x. x), refl, refl)
 
 take-step-requires : tie.Need-take-step-requires Inv-loop μ-loop
 take-step-requires c κs =
-    let p = c .before .before .before .before .before .before .before .pre in
+    let p = c .before .before .before .before .before .before .before .pre .can in
     record {
       s = p .s;
       bound = p .bound;

@@ -1,7 +1,7 @@
 -- The two returns are the two things that a band does to its first cell, for any wave at hand.
 use native.Mathlib.Omega.{arith}
 use borrow.Author.Needs.{needs}
-use Rattle.wave.proofs.Visits.{first-inside, first-taking, first-room, first-kept, first-done}
+use Rattle.wave.proofs.Visits.{first-inside, first-taking, first-within, first-room, first-kept, first-done}
 use Rattle.wave.proofs.bands.visit.Statement.{statement}
 use Rattle.wave.proofs.bands.visit.Tie as tie
 
@@ -27,12 +27,15 @@ take-steps-requires c κs =
     let t = c .before .before in
     let s = t .before .before .before .before .before .before in
     record {
-      s = s .pre .s;
-      bound = s .args .bound;
-      at = s .args .at;
-      stop = s .pre .stop;
-      other = s .pre .other;
-      here = first-taking (s .pre .here) (s .pre .before) (t .if1 .taken);
+      can = record {
+        s = s .pre .s;
+        bound = s .args .bound;
+        at = s .args .at;
+        stop = s .pre .stop;
+        other = s .pre .other;
+        here = first-taking (s .pre .here) (s .pre .before) (t .if1 .taken);
+      };
+      within = first-within (s .pre .here) (s .pre .before) (s .args .limit) (s .pre .within) (t .if1 .taken);
     }
 
 same-length : tie.Need-same-length
