@@ -19,7 +19,7 @@ use Rattle.paths.proofs.Walks.{Ending, snoc, stay, ending}
 use Rattle.paths.proofs.Ground.{Grounded, Tight, cheaper, cheaper-step, cheaper-lt, route-lower, right-grounded, right-tight}
 use Rattle.paths.proofs.Rule.{offer-is, is-offer}
 
-not-both-ahead : (a b : List ℕ) → Ahead a b → Ahead b a → ⊥
+pub not-both-ahead : (a b : List ℕ) → Ahead a b → Ahead b a → ⊥
 not-both-ahead [] b p q = p
 not-both-ahead (d ∷ a) [] p q = p
 not-both-ahead (d ∷ a) (e ∷ b) (inl p) (inl q) = omega arith

@@ -6,3 +6,6 @@ pub mod Rule
 pub mod Exists
 pub mod Firsts
 pub mod Meaning
+pub mod Loops
+pub mod Ties
+pub mod Sums

@@ -52,7 +52,7 @@ module _ {g : Graph} {least most : ℕ} (law : Lawful g least most) (s : ℕ) (s
 
   module _ (v c : ℕ) (l : Least g s v c) where
     -- the right table's value of a reachable cell is its least cost
-    value-is-least : (t : List ℕ) → (right : Right g s t) → getD t v 0 ≡ c
+    pub value-is-least : (t : List ℕ) → (right : Right g s t) → getD t v 0 ≡ c
     value-is-least t right =
         let x : Reachable g s v = (l .way, l .route) in
         let h = ends-inside v x in

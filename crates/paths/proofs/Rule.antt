@@ -57,7 +57,7 @@ module _ {g : Graph} {least most : ℕ} (law : Lawful g least most) (s : ℕ) (t
   is-offer v c x = rw (x .lands, x .sum) at (offer-of (x .u) (x .d) (x .steps) (x .known))
 
   -- the smallest offer is an offer, and at most each of them
-  smallest-is : (v n c : ℕ) → smallest g t v n ≡ some c → (d : ℕ) × (offer g t v d ≡ some c)
+  pub smallest-is : (v n c : ℕ) → smallest g t v n ≡ some c → (d : ℕ) × (offer g t v d ≡ some c)
   smallest-is v zero c e = let z : _≡_ {A = ℕ} 0 1 = cc in absurd (omega arith)
   smallest-is v (suc n) c e = go (smaller-some (smallest g t v n) (offer g t v n) c e) (smallest-is v n c)
     where
@@ -76,10 +76,10 @@ module _ {g : Graph} {least most : ℕ} (law : Lawful g least most) (s : ℕ) (t
           let q = smaller-left (smallest g t v n) (offer g t v n) (r .0) (r .1) in
           (q .0, q .1, omega (arith, q .2, r .2))
 
-  offered : (v c : ℕ) → Offers g t v c → (k : ℕ) × (smallest g t v (g .directions) ≡ some k) × (k ≤ c)
+  pub offered : (v c : ℕ) → Offers g t v c → (k : ℕ) × (smallest g t v (g .directions) ≡ some k) × (k ≤ c)
   offered v c x = smallest-le v (g .directions) (x .d) c (law .numbered (x .u) (x .d) (x .steps)) (is-offer v c x)
 
-  due-other : (v : ℕ) (o : Option ℕ) → v ≢ s → smallest g t v (g .directions) ≡ o → due g s t v ≡ Option·getD o MARK
+  pub due-other : (v : ℕ) (o : Option ℕ) → v ≢ s → smallest g t v (g .directions) ≡ o → due g s t v ≡ Option·getD o MARK
   unfolding due
   due-other v o h e = rw (ne-eqb v s h, e)
 
