@@ -1,5 +1,6 @@
 pub mod Orders
 pub mod Lists
+pub mod OneList
 pub mod Waves
 pub mod Slices
 pub mod Tallies

@@ -1,3 +1,4 @@
+pub mod List
 pub mod Order
 pub mod Answer
 pub mod Wave
