@@ -3,5 +3,10 @@ pub mod Lines
 pub mod Unread
 pub mod FirstHolds
 pub mod Rowed
+pub mod Leaving
+pub mod Tabled
 pub mod SecondHolds
 pub mod ThirdHolds
+pub mod OneTable
+pub mod Searches
+pub mod AloneHolds

@@ -40,7 +40,7 @@ zero-no-code Kind.found e = omega arith
 zero-no-code Kind.none e = omega arith
 zero-no-code Kind.stopped e = omega arith
 
-code-answered : (k : Kind) (r : row.Answer) → numbersOf (answered k r) .kind ≡ code k
+pub code-answered : (k : Kind) (r : row.Answer) → numbersOf (answered k r) .kind ≡ code k
 code-answered Kind.found r = refl
 code-answered Kind.none r = refl
 code-answered Kind.stopped r = refl

@@ -1,14 +1,16 @@
 -- 01, "Floors to try": the cases a to l, and what it is that a case holds.
 use mathlib.Core.Path.{_≡_}
 use mathlib.Core.List.{List, [], _∷_}
-use Prim.Native.Nat.{ℕ, _<_}
+use Prim.Native.Nat.{ℕ, _*_}
 use Rattle.paths.specs.Graph.{MARK}
 use Rattle.paths.specs.Table.{Right}
 use Rattle.settling.specs.Answer.{Kind, Answer, answerOf, costsLeft}
 use Rattle.floor.specs.declared.Floor.{Floor}
+use Rattle.floor.specs.declared.Screen.the-variants.{Passed}
 use Rattle.floor.specs.Place.{floorOf, cells}
 use Rattle.floor.specs.Step.{graph}
-use Rattle.floor.specs.Refusal.{HasPassed}
+use Rattle.floor.specs.Refusal.{Line, screen}
+use Rattle.search.specs.Search.{lengthLines}
 
 -- a question on a map, and what 01 says of it; `table` is the right table of the start, `costs` the costs that the search leaves
 pub record Case : Type 0 where
@@ -21,10 +23,12 @@ pub record Case : Type 0 where
   pub table : List ℕ
   pub costs : List ℕ
 
+abbrev pub linesOf : Case → List Line
+linesOf c = let n = cells (c .floor) in lengthLines (c .floor) (c .bytes) (c .start) (c .goal) n (2 * n) n
+
 pub record Holds (c : Case) : Type 0 where
-  pub passed : HasPassed (c .floor) (c .bytes)
-  pub starts : c .start < cells (c .floor)
-  pub ends : c .goal < cells (c .floor)
+  -- none of the refusals 1 to 11 is given for rooms of just the lengths that the search needs
+  pub passed : screen (linesOf c) ≡ Passed
   pub right : Right (graph (c .floor) (c .bytes)) (c .start) (c .table)
   pub answers : answerOf (graph (c .floor) (c .bytes)) (c .start) (c .table) (c .goal) (c .limit) ≡ c .answer
   pub leaves : costsLeft (c .table) (c .answer .settled) ≡ c .costs

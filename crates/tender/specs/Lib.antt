@@ -1,4 +1,6 @@
 pub mod Cases
 pub mod FirstCondition
+pub mod SearchTable
 pub mod SecondCondition
+pub mod Alone
 pub mod ThirdCondition
