@@ -30,7 +30,7 @@ use Rattle.floor.proofs.Laws.{lawful, least-cost-bound}
 use Rattle.floor.proofs.Questions.{question-passed, start-inside, goal-inside}
 use Rattle.search.specs.declared.Answer.{Answer}
 use Rattle.search.specs.declared.AnswerNumbers.{AnswerNumbers}
-use Rattle.search.specs.Search.{Question, Rooms, searchLines, rowOf, answered, outcome, Searched, numbersOf}
+use Rattle.search.specs.Search.{Question, Rooms, searchLines, answered, Searched, refused, passed, numbersOf}
 use Rattle.search.proofs.Lending.{search-question}
 use Rattle.desk.specs.Record.{numberAt, questionIn}
 use Rattle.desk.specs.Desk.{Asked, no-zeros, searched}
@@ -132,17 +132,18 @@ refusal-in-record n p h = record {
 
 searched-fits : (f : Floor) (m : List ℕ) (q : Question) (r : Rooms) {a : Answer} {r′ : Rooms} → q .limit ≤ MARK → Searched f m q r a r′
     → InRecord (numbersOf a)
-searched-fits f m q r small x = rw (x .answer) (go (screen (searchLines f m q r)) refl (screen-below 12 (searchLines f m q r) tt))
+searched-fits f m q r small (refused n p e b l) = rw b (refusal-in-record n p (below n p (rw e at (screen-below 12 (searchLines f m q r) tt))))
   where
-    go : (s : Screen) → screen (searchLines f m q r) ≡ s → NumberBelow 12 s → InRecord (numbersOf (outcome s (rowOf f m q (x .table))))
-    go Passed e b =
-        let p = search-question f m q r e in
-        row-fits f m (question-passed f m (q .start) (q .goal) p) (q .start) (start-inside f m (q .start) (q .goal) p) (x .table) (x .right e)
-        (q .goal)
-        (q .limit)
-        (goal-inside f m (q .start) (q .goal) p)
-        small
-    go (Refused n p) e b = refusal-in-record n p (omega arith)
+    below : (n p : ℕ) → NumberBelow 12 (Refused n p) → n < 256
+    below n p h = omega arith
+searched-fits f m q r small (passed e x) =
+    let p = search-question f m q r e in
+    rw (x .answer)
+    (row-fits f m (question-passed f m (q .start) (q .goal) p) (q .start) (start-inside f m (q .start) (q .goal) p) (x .table) (x .right)
+    (q .goal)
+    (q .limit)
+    (goal-inside f m (q .start) (q .goal) p)
+    small)
 
 -- a number of four bytes
 number-small : (bytes : List ℕ) (at : ℕ) → ((v : ℕ) → getD bytes v 0 < 256) → numberAt bytes at ≤ MARK

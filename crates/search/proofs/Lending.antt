@@ -1,29 +1,22 @@
 -- The promise from the rooms' parts: a refusal leaves everything as it was, and else each part is followed by the rest of its room.
-use mathlib.Core.Path.{_≡_, sym, _∙_, ap}
-use mathlib.Core.List.{List, [], _++_}
+use mathlib.Core.Path.{_≡_, refl}
+use mathlib.Core.List.{List, _++_}
 use Prim.Native.Nat.{ℕ, _*_, _≤_}
-use native.Mathlib.Omega.{arith}
 use lib.Dec.{nltb→le}
 use lib.ListN.{length, drop, replicate}
 use Rattle.floor.specs.declared.Floor.{Floor}
-use Rattle.floor.specs.declared.Screen.{Screen}
 use Rattle.floor.specs.declared.Screen.the-variants.{Passed, Refused}
 use Rattle.floor.specs.Place.{cells}
 use Rattle.floor.specs.Refusal.{screen, questionLines}
 use Rattle.floor.proofs.Questions.{passed-both}
 use Rattle.floor.proofs.Screens.{none-given}
 use Rattle.search.specs.declared.Answer.{Answer}
-use Rattle.search.specs.Search.{Question, Rooms, rooms, roomLines, searchLines, rowOf, outcome, after, Searched}
+use Rattle.search.specs.Search.{Question, Rooms, rooms, roomLines, searchLines, Searched, refused, passed}
 use Rattle.search.specs.Last.{Finished}
 
 module _ (f : Floor) (m : List ℕ) (q : Question) (r : Rooms) where
   pub searched-refused : (n p : ℕ) → screen (searchLines f m q r) ≡ Refused n p → Searched f m q r (Answer.Refused n p) r
-  searched-refused n p e = record {
-    table = [];
-    right = λ h. let z : _≡_ {A = ℕ} 0 1 = cc in absurd (omega arith);
-    answer = sym (ap (λ (s : Screen). outcome s (rowOf f m q [])) e);
-    leaves = sym (ap (after f [] (rowOf f m q []) r) e);
-  }
+  searched-refused n p e = refused n p e refl refl
 
   module _ (e : screen (searchLines f m q r) ≡ Passed) where
     parts : (screen (questionLines f m (q .start) (q .goal)) ≡ Passed) × (screen (roomLines f (length (r .costs)) (length (r .work)) (length (r .route))) ≡ Passed)
@@ -44,9 +37,4 @@ module _ (f : Floor) (m : List ℕ) (q : Question) (r : Rooms) where
     -- n is the number of cells, as the code has it
     pub searched-passed : (n : ℕ) → n ≡ cells f → {a : Answer} {costs′ work′ route′ : List ℕ} → Finished f m q (r .route) a costs′ route′
         → work′ ≡ replicate (2 * cells f) 0 → Searched f m q r a (rooms (costs′ ++ drop n (r .costs)) (work′ ++ drop (2 * n) (r .work)) route′)
-    searched-passed n c x z = record {
-      table = x .table;
-      right = λ h. x .right;
-      answer = x .answer ∙ sym (ap (λ (s : Screen). outcome s (rowOf f m q (x .table))) e);
-      leaves = rw (c, x .costs-left, z, x .route-left) (sym (ap (after f (x .table) (rowOf f m q (x .table)) r) e));
-    }
+    searched-passed n c x z = passed e (record { table = x .table; right = x .right; answer = x .answer; leaves = rw (c, x .costs-left, z, x .route-left) })

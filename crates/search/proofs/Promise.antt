@@ -1,31 +1,36 @@
 -- The promise leaves nothing open: the right table is unique, and where the question is refused no table is looked at.
-use mathlib.Core.Path.{_≡_, refl, sym, _∙_, ap}
+use mathlib.Core.Path.{_≡_, sym, _∙_, ap}
 use mathlib.Core.List.{List}
+use Prim.Native.Nat.{ℕ}
+use native.Mathlib.Omega.{arith}
 use Rattle.paths.proofs.Exists.{right-unique}
 use Rattle.floor.specs.declared.Floor.{Floor}
-use Rattle.floor.specs.declared.Screen.{Screen}
 use Rattle.floor.specs.declared.Screen.the-variants.{Passed, Refused}
 use Rattle.floor.specs.Refusal.{screen}
 use Rattle.floor.specs.Step.{graph}
-use Prim.Native.Nat.{ℕ}
 use Rattle.search.specs.declared.Answer.{Answer}
 use Rattle.search.specs.declared.AnswerNumbers.{AnswerNumbers}
-use Rattle.search.specs.Search.{Question, Rooms, searchLines, rowOf, outcome, after, Searched, numbersOf, Called}
+use Rattle.search.specs.Search.{Question, Rooms, searchLines, rowOf, answered, after, ByTable, Searched, refused, passed, numbersOf, Called}
+
+module _ {f : Floor} {m : List ℕ} {q : Question} {r : Rooms} {a : Answer} {r′ : Rooms} where
+  -- the two cases, each where it applies
+  pub by-table : Searched f m q r a r′ → screen (searchLines f m q r) ≡ Passed → ByTable f m q r a r′
+  by-table (refused n p e b l) k = let z : _≡_ {A = ℕ} 0 1 = cc in absurd (omega arith)
+  by-table (passed e x) k = x
+
+  pub by-refusal : Searched f m q r a r′ → (n p : ℕ) → screen (searchLines f m q r) ≡ Refused n p → (a ≡ Answer.Refused n p) × (r′ ≡ r)
+  by-refusal (refused i j e b l) n p k = (cc, l)
+  by-refusal (passed e x) n p k = let z : _≡_ {A = ℕ} 0 1 = cc in absurd (omega arith)
 
 -- a second answer with rooms that meet the promise is equal
 pub one-search : (f : Floor) (m : List ℕ) (q : Question) (r : Rooms) {a b : Answer} {r₁ r₂ : Rooms}
     → Searched f m q r a r₁ → Searched f m q r b r₂ → (a ≡ b) × (r₁ ≡ r₂)
-one-search f m q r {a} {b} {r₁} {r₂} x y = go (screen (searchLines f m q r)) refl
-  where
-    go : (s : Screen) → screen (searchLines f m q r) ≡ s → (a ≡ b) × (r₁ ≡ r₂)
-    go Passed e =
-        let t = right-unique (graph f m) (q .start) (x .table) (y .table) (x .right e) (y .right e) in (
-          x .answer ∙ ap (λ (t : List ℕ). outcome (screen (searchLines f m q r)) (rowOf f m q t)) t ∙ sym (y .answer),
-          x .leaves ∙ ap (λ (t : List ℕ). after f t (rowOf f m q t) r (screen (searchLines f m q r))) t ∙ sym (y .leaves),
-        )
-    go (Refused n p) e = (
-      x .answer ∙ ap (λ (s : Screen). outcome s (rowOf f m q (x .table))) e ∙ sym (y .answer ∙ ap (λ (s : Screen). outcome s (rowOf f m q (y .table))) e),
-      x .leaves ∙ ap (after f (x .table) (rowOf f m q (x .table)) r) e ∙ sym (y .leaves ∙ ap (after f (y .table) (rowOf f m q (y .table)) r) e),
+one-search f m q r (refused n p e c l) y = let z = by-refusal y n p e in (c ∙ sym (z .0), l ∙ sym (z .1))
+one-search f m q r (passed e x) z =
+    let y = by-table z e in
+    let t = right-unique (graph f m) (q .start) (x .table) (y .table) (x .right) (y .right) in (
+      x .answer ∙ ap (λ (t : List ℕ). answered (rowOf f m q t .kind) (rowOf f m q t)) t ∙ sym (y .answer),
+      x .leaves ∙ ap (λ (t : List ℕ). after f t (rowOf f m q t) r) t ∙ sym (y .leaves),
     )
 
 -- and so for the call from C

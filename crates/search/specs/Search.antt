@@ -9,8 +9,7 @@ use Rattle.paths.specs.Table.{Right}
 use Rattle.settling.specs.Answer as row
 use Rattle.settling.specs.Answer.{Kind, answerOf, costsLeft}
 use Rattle.floor.specs.declared.Floor.{Floor}
-use Rattle.floor.specs.declared.Screen.{Screen}
-use Rattle.floor.specs.declared.Screen.the-variants.{Passed}
+use Rattle.floor.specs.declared.Screen.the-variants.{Passed, Refused}
 use Rattle.floor.specs.Place.{cells}
 use Rattle.floor.specs.Step.{graph}
 use Rattle.floor.specs.Refusal.{Line, line, screen, questionLines}
@@ -57,23 +56,23 @@ answered Kind.found a = Found (a .settled) (a .number) (length (a .route))
 answered Kind.none a = None (a .settled)
 answered Kind.stopped a = Stopped (a .settled) (a .number)
 
-abbrev pub outcome : Screen → row.Answer → Answer
-outcome Passed a = answered (a .kind) a
-outcome (Screen.Refused n p) a = Answer.Refused n p
-
--- the rooms afterwards: a refusal changes nothing; else the costs left, zeros, and the route, each with the rest as it was
-abbrev pub after : Floor → List ℕ → row.Answer → Rooms → Screen → Rooms
-after f t a r Passed =
+-- the rooms after an answer: the costs left, zeros, and the route, each with the rest as it was
+abbrev pub after : Floor → List ℕ → row.Answer → Rooms → Rooms
+after f t a r =
     rooms (costsLeft t (a .settled) ++ drop (cells f) (r .costs)) (replicate (2 * cells f) 0 ++ drop (2 * cells f) (r .work))
     (a .route ++ drop (length (a .route)) (r .route))
-after f t a r (Screen.Refused n p) = r
 
--- The promise. The table is the right one of the start, unless the question is refused
-pub record Searched (f : Floor) (m : List ℕ) (q : Question) (r : Rooms) (a : Answer) (r′ : Rooms) : Type 0 where
+-- the answer and the rooms by the right table of the start
+pub record ByTable (f : Floor) (m : List ℕ) (q : Question) (r : Rooms) (a : Answer) (r′ : Rooms) : Type 0 where
   pub table : List ℕ
-  pub right : screen (searchLines f m q r) ≡ Passed → Right (graph f m) (q .start) table
-  pub answer : a ≡ outcome (screen (searchLines f m q r)) (rowOf f m q table)
-  pub leaves : r′ ≡ after f table (rowOf f m q table) r (screen (searchLines f m q r))
+  pub right : Right (graph f m) (q .start) table
+  pub answer : a ≡ answered (rowOf f m q table .kind) (rowOf f m q table)
+  pub leaves : r′ ≡ after f table (rowOf f m q table) r
+
+-- The promise: a refusal, which changes nothing, or an answer by the right table
+pub data Searched (f : Floor) (m : List ℕ) (q : Question) (r : Rooms) (a : Answer) (r′ : Rooms) : Type 0 where
+  refused : (n p : ℕ) → screen (searchLines f m q r) ≡ Refused n p → a ≡ Answer.Refused n p → r′ ≡ r → Searched f m q r a r′
+  passed : screen (searchLines f m q r) ≡ Passed → ByTable f m q r a r′ → Searched f m q r a r′
 
 -- 01's numbers of an answer: kind (0 refused, 1 found, 2 none, 3 stopped), refusal number and place, settled count, number returned, route length
 abbrev pub numbersOf : Answer → AnswerNumbers

@@ -1,6 +1,6 @@
 -- The first condition: every entry's promise begins with its lines, and an answer that is a refusal comes from them.
 use mathlib.Core.Path.{_≡_, refl, sym, ap, _∙_}
-use mathlib.Core.Logic.{Iff·trans}
+use mathlib.Core.Logic.{_↔_, Iff·trans}
 use mathlib.Core.List.{List}
 use Prim.Native.Nat.{ℕ}
 use native.Mathlib.Omega.{arith}
@@ -10,7 +10,7 @@ use Rattle.settling.specs.Answer.{Kind}
 use Rattle.floor.specs.declared.Floor.{Floor}
 use Rattle.floor.specs.declared.Screen.{Screen}
 use Rattle.floor.specs.declared.Screen.the-variants.{Passed, Refused}
-use Rattle.floor.specs.Refusal.{mapLines, floorLines, questionLines}
+use Rattle.floor.specs.Refusal.{screen, mapLines, floorLines, questionLines}
 use Rattle.maptext.specs.declared.Written.{Written}
 use Rattle.maptext.specs.declared.Written.the-variants.{Length}
 use Rattle.maptext.specs.Text.{textOf, writeLines, writtenFor, textLeft, IsWritten}
@@ -18,38 +18,33 @@ use Rattle.claims.specs.Route.{claimLines}
 use Rattle.claims.specs.Table.{tableLines}
 use Rattle.claims.proofs.Claims.{route-refused-exactly, table-refused-exactly}
 use Rattle.search.specs.declared.Answer.{Answer}
-use Rattle.search.specs.declared.Answer.the-variants.{Found, None, Stopped}
-use Rattle.search.specs.Search.{Question, Rooms, searchLines, rowOf, answered, outcome, after, Searched}
+use Rattle.search.specs.Search.{Question, Rooms, searchLines, rowOf, answered, Searched, refused, passed}
+use Rattle.search.proofs.Promise.{by-refusal}
 use Rattle.desk.specs.Record.{questionIn, waysIn}
 use Rattle.desk.specs.Desk.{withWays, Asked, no-zeros, searched}
 use Rattle.tender.specs.FirstCondition.{IsLowestLine, Refuses, IsRefusable, zeros-missing, not-searched, FirstCondition}
 use Rattle.tender.proofs.Lines.{lowest-line, refused-lines, by-lines}
 use Rattle.tender.proofs.Unread.{reader-refuses, program-refuses}
 
-abbrev searchScreen : Answer → Screen
-searchScreen (Answer.Refused n p) = Refused n p
-searchScreen (Found s c l) = Passed
-searchScreen (None s) = Passed
-searchScreen (Stopped s c) = Passed
-
-search-back : (w : row.Answer) (s : Screen) → searchScreen (outcome s w) ≡ s
-search-back w Passed = go (w .kind)
-  where
-    go : (k : Kind) → searchScreen (answered k w) ≡ Passed
-    go Kind.found = refl
-    go Kind.none = refl
-    go Kind.stopped = refl
-search-back w (Refused n p) = refl
+-- an answer that is a row of 01's table is no refusal
+row-no-refusal : (k : Kind) (w : row.Answer) (n p : ℕ) → answered k w ≡ Answer.Refused n p → ⊥
+row-no-refusal Kind.found w n p e = let z : _≡_ {A = ℕ} 0 1 = cc in omega arith
+row-no-refusal Kind.none w n p e = let z : _≡_ {A = ℕ} 0 1 = cc in omega arith
+row-no-refusal Kind.stopped w n p e = let z : _≡_ {A = ℕ} 0 1 = cc in omega arith
 
 search-refuses : (f : Floor) (m : List ℕ) (q : Question) (r : Rooms) (a : Answer) (r′ : Rooms) → Searched f m q r a r′
     → Refuses (IsLowestLine (searchLines f m q r)) (λ n p. a ≡ Answer.Refused n p) (r′ ≡ r)
-search-refuses f m q r a r′ x =
-    let w = rowOf f m q (x .table) in
-    record {
-      exactly = by-lines (λ s. outcome s w) searchScreen (search-back w) (searchLines f m q r) (x .answer) tt;
-      alters-nothing = λ n p e.
-          x .leaves ∙ ap (after f (x .table) w r) (refused-lines (λ s. outcome s w) searchScreen (search-back w) (searchLines f m q r) (x .answer) n p e);
-    }
+search-refuses f m q r a r′ x = record {
+  exactly = λ n p. Iff·trans (same n p x) (lowest-line (searchLines f m q r) 0 tt n p);
+  alters-nothing = λ n p e. by-refusal x n p (same n p x .0 e) .1;
+}
+  where
+    same : (n p : ℕ) → Searched f m q r a r′ → (a ≡ Answer.Refused n p) ↔ (screen (searchLines f m q r) ≡ Refused n p)
+    same n p (refused i j e b l) = (λ h. cc, λ h. cc)
+    same n p (passed e y) = (
+      λ h. absurd (row-no-refusal (rowOf f m q (y .table) .kind) (rowOf f m q (y .table)) n p (sym (y .answer) ∙ h)),
+      λ h. let z : _≡_ {A = ℕ} 0 1 = cc in absurd (omega arith),
+    )
 
 abbrev writtenScreen : Written → Screen
 writtenScreen (Length n) = Passed

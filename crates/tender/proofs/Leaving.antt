@@ -17,7 +17,7 @@ use Rattle.floor.specs.declared.Screen.the-variants.{Passed}
 use Rattle.floor.specs.Place.{cells}
 use Rattle.floor.specs.Refusal.{screen}
 use Rattle.search.specs.declared.Answer.{Answer}
-use Rattle.search.specs.Search.{Question, Rooms, searchLines, after, Searched}
+use Rattle.search.specs.Search.{Question, Rooms, searchLines, ByTable}
 use Rattle.search.proofs.Lending.{long-costs, long-work, long-route}
 use Rattle.tender.specs.SearchTable.{SameLengths}
 use Rattle.tender.proofs.Rowed.{given, law, starts, ends}
@@ -33,22 +33,19 @@ first-short {g} law s start v ds f = least-cost-route-short law s start v (costO
 room-length : (part room : List ℕ) (n : ℕ) → length part ≡ n → n ≤ length room → length (part ++ drop n room) ≡ length room
 room-length part room n e h = length-front room part n (e ∙ sym (length-take-le n room h))
 
-module _ {f : Floor} {m : List ℕ} {q : Question} {r : Rooms} {a : Answer} {r′ : Rooms} (x : Searched f m q r a r′)
+module _ {f : Floor} {m : List ℕ} {q : Question} {r : Rooms} {a : Answer} {r′ : Rooms} (x : ByTable f m q r a r′)
     (p : screen (searchLines f m q r) ≡ Passed) where
-  left : r′ ≡ after f (x .table) (given x) r Passed
-  left = x .leaves ∙ ap (after f (x .table) (given x) r) p
-
   pub costs-left : r′ .costs ≡ costsLeft (x .table) (given x .settled) ++ drop (cells f) (r .costs)
-  costs-left = ap (λ (z : Rooms). z .costs) left
+  costs-left = ap (λ (z : Rooms). z .costs) (x .leaves)
 
   pub work-left : r′ .work ≡ replicate (2 * cells f) 0 ++ drop (2 * cells f) (r .work)
-  work-left = ap (λ (z : Rooms). z .work) left
+  work-left = ap (λ (z : Rooms). z .work) (x .leaves)
 
   pub route-left : r′ .route ≡ given x .route ++ drop (length (given x .route)) (r .route)
-  route-left = ap (λ (z : Rooms). z .route) left
+  route-left = ap (λ (z : Rooms). z .route) (x .leaves)
 
   pub costs-cover : length (costsLeft (x .table) (given x .settled)) ≡ cells f
-  costs-cover = length-left (x .table) (given x .settled) ∙ x .right p .covers
+  costs-cover = length-left (x .table) (given x .settled) ∙ x .right .covers
 
   pub work-cover : length {A = ℕ} (replicate (2 * cells f) 0) ≡ 2 * cells f
   work-cover = length-replicate {A = ℕ} (2 * cells f) 0
@@ -61,14 +58,14 @@ module _ {f : Floor} {m : List ℕ} {q : Question} {r : Rooms} {a : Answer} {r�
 
       go : (k : Kind) → given x .kind ≡ k → length (given x .route) ≤ length (r .route)
       go Kind.found k =
-          let first = found-first (law x p) (q .start) (starts x p) (x .table) (x .right p) (q .goal) (ends x p) (q .limit) k in
+          let first = found-first (law x p) (q .start) (starts x p) (x .table) (x .right) (q .goal) (ends x p) (q .limit) k in
           omega (arith, first-short (law x p) (q .start) (starts x p) (q .goal) (given x .route) first, long-route f m q r p)
       go Kind.none k =
-          let when = none-exactly (law x p) (q .start) (starts x p) (x .table) (x .right p) (q .goal) (ends x p) (q .limit) .0 k in
-          empty (none-is (law x p) (q .start) (starts x p) (x .table) (x .right p) (q .goal) (ends x p) (q .limit) when) refl
+          let when = none-exactly (law x p) (q .start) (starts x p) (x .table) (x .right) (q .goal) (ends x p) (q .limit) .0 k in
+          empty (none-is (law x p) (q .start) (starts x p) (x .table) (x .right) (q .goal) (ends x p) (q .limit) when) refl
       go Kind.stopped k =
-          let when = stopped-exactly (law x p) (q .start) (starts x p) (x .table) (x .right p) (q .goal) (ends x p) (q .limit) .0 k in
-          empty (stopped-is (law x p) (q .start) (starts x p) (x .table) (x .right p) (q .goal) (ends x p) (q .limit) when) refl
+          let when = stopped-exactly (law x p) (q .start) (starts x p) (x .table) (x .right) (q .goal) (ends x p) (q .limit) .0 k in
+          empty (stopped-is (law x p) (q .start) (starts x p) (x .table) (x .right) (q .goal) (ends x p) (q .limit) when) refl
 
   pub lengths-stay : SameLengths r r′
   lengths-stay = record {

@@ -14,7 +14,6 @@ use Rattle.settling.specs.Answer as row
 use Rattle.settling.specs.Answer.{Kind}
 use Rattle.settling.proofs.Outcomes.{code, found-first, found-cost, stopped-floor}
 use Rattle.floor.specs.declared.Floor.{Floor}
-use Rattle.floor.specs.declared.Screen.{Screen}
 use Rattle.floor.specs.declared.Screen.the-variants.{Passed}
 use Rattle.floor.specs.Place.{cells}
 use Rattle.floor.specs.Step.{leastStep, greatestStep, graph}
@@ -23,7 +22,7 @@ use Rattle.floor.proofs.Laws.{lawful}
 use Rattle.floor.proofs.Questions.{question-passed, start-inside, goal-inside}
 use Rattle.search.specs.declared.Answer.{Answer}
 use Rattle.search.specs.declared.Answer.the-variants.{Found, Stopped}
-use Rattle.search.specs.Search.{Question, Rooms, searchLines, rowOf, answered, outcome, after, Searched, numbersOf}
+use Rattle.search.specs.Search.{Question, Rooms, searchLines, rowOf, answered, ByTable, Searched, refused, passed, numbersOf}
 use Rattle.search.proofs.Lending.{search-question}
 
 -- a kind from its number in 01's table
@@ -50,41 +49,34 @@ settled-answered Kind.found r = refl
 settled-answered Kind.none r = refl
 settled-answered Kind.stopped r = refl
 
-module _ {f : Floor} {m : List ℕ} {q : Question} {r : Rooms} {a : Answer} {r′ : Rooms} (x : Searched f m q r a r′) where
-  abbrev pub lines : Screen
-  lines = screen (searchLines f m q r)
-
+module _ {f : Floor} {m : List ℕ} {q : Question} {r : Rooms} {a : Answer} {r′ : Rooms} (x : ByTable f m q r a r′) where
   abbrev pub given : row.Answer
   given = rowOf f m q (x .table)
 
-  -- an answer of kind k is not a refusal, and comes from a row of that kind
+  -- an answer of kind k comes from a row of that kind
   pub record FromRow (k : Kind) : Type 0 where
-    pub passed : lines ≡ Passed
     pub kind : given .kind ≡ k
     pub answer : a ≡ answered k given
     pub route : r′ .route ≡ given .route ++ drop (length (given .route)) (r .route)
 
-  pub from-row : (k : Kind) → numbersOf a .kind ≡ code k → FromRow k
-  from-row k e = go lines refl
-    where
-      go : (z : Screen) → lines ≡ z → FromRow k
-      go Passed p =
-          let b = x .answer ∙ ap (λ (z : Screen). outcome z given) p in
-          let c = sym (code-answered (given .kind) given) ∙ sym (ap (λ (b : Answer). numbersOf b .kind) b) ∙ e in
-          let h = sym (kind-back (given .kind)) ∙ ap kindOf c ∙ kind-back k in
-          record {
-            passed = p;
-            kind = h;
-            answer = b ∙ ap (λ (k : Kind). answered k given) h;
-            route = ap (λ (z : Rooms). z .route) (x .leaves ∙ ap (after f (x .table) given r) p);
-          }
-      go (Screen.Refused n w) p =
-          let b = x .answer ∙ ap (λ (z : Screen). outcome z given) p in
-          absurd (zero-no-code k (sym (ap (λ (b : Answer). numbersOf b .kind) b) ∙ e))
+  -- an answer of that kind
+  pub as-row : (k : Kind) → given .kind ≡ k → a ≡ answered k given
+  as-row k h = x .answer ∙ ap (λ (k : Kind). answered k given) h
 
-  module _ (passed : lines ≡ Passed) where
+  pub from-row : (k : Kind) → numbersOf a .kind ≡ code k → FromRow k
+  from-row k e =
+      let c = sym (code-answered (given .kind) given) ∙ sym (ap (λ (b : Answer). numbersOf b .kind) (x .answer)) ∙ e in
+      let h = sym (kind-back (given .kind)) ∙ ap kindOf c ∙ kind-back k in
+      record { kind = h; answer = as-row k h; route = ap (λ (z : Rooms). z .route) (x .leaves) }
+
+  -- the settled count is the row's
+  pub settled-is : numbersOf a .settled ≡ given .settled
+  settled-is = ap (λ (b : Answer). numbersOf b .settled) (as-row (given .kind) refl) ∙ settled-answered (given .kind) given
+
+  -- what a question that passed gives
+  module _ (p : screen (searchLines f m q r) ≡ Passed) where
     abbrev asked : screen (questionLines f m (q .start) (q .goal)) ≡ Passed
-    asked = search-question f m q r passed
+    asked = search-question f m q r p
 
     abbrev pub law : Lawful (graph f m) leastStep greatestStep
     law = lawful f m (question-passed f m (q .start) (q .goal) asked)
@@ -95,33 +87,34 @@ module _ {f : Floor} {m : List ℕ} {q : Question} {r : Rooms} {a : Answer} {r�
     abbrev pub ends : q .goal < cells f
     ends = goal-inside f m (q .start) (q .goal) asked
 
-  -- an answer of that kind
-  pub as-row : (k : Kind) → lines ≡ Passed → given .kind ≡ k → a ≡ answered k given
-  as-row k p h = x .answer ∙ ap (λ (z : Screen). outcome z given) p ∙ ap (λ (k : Kind). answered k given) h
+  module _ (p : screen (searchLines f m q r) ≡ Passed) where
+    found-by-table : (s c l : ℕ) → a ≡ Found s c l
+        → First (graph f m) (q .start) (q .goal) (take l (r′ .route)) × (costOf (graph f m) (q .start) (take l (r′ .route)) ≡ c)
+    found-by-table s c l e =
+        let w = from-row Kind.found (ap (λ (b : Answer). numbersOf b .kind) e) in
+        let b = sym e ∙ w .answer in
+        let n : l ≡ length (given .route) = ap (λ (b : Answer). numbersOf b .length) b in
+        let t : take l (r′ .route) ≡ given .route = rw (w .route, n) (take-append-seam (given .route) (drop (length (given .route)) (r .route))) in
+        rw t (
+          found-first (law p) (q .start) (starts p) (x .table) (x .right) (q .goal) (ends p) (q .limit) (w .kind),
+          found-cost (law p) (q .start) (starts p) (x .table) (x .right) (q .goal) (ends p) (q .limit) (w .kind) ∙ sym (ap (λ (b : Answer). numbersOf b .number) b),
+        )
 
-  -- the settled count is the row's
-  pub settled-is : lines ≡ Passed → numbersOf a .settled ≡ given .settled
-  settled-is p = ap (λ (b : Answer). numbersOf b .settled) (as-row (given .kind) p refl) ∙ settled-answered (given .kind) given
+    stopped-by-table : (s c : ℕ) → a ≡ Stopped s c → (ds : List ℕ) → Route (graph f m) (q .start) (q .goal) ds → c ≤ costOf (graph f m) (q .start) ds
+    stopped-by-table s c e ds w =
+        let y = from-row Kind.stopped (ap (λ (b : Answer). numbersOf b .kind) e) in
+        rw (ap (λ (b : Answer). numbersOf b .number) (sym e ∙ y .answer))
+        (stopped-floor (law p) (q .start) (starts p) (x .table) (x .right) (q .goal) (ends p) (q .limit) (y .kind) ds w)
 
+module _ {f : Floor} {m : List ℕ} {q : Question} {r : Rooms} {a : Answer} {r′ : Rooms} where
   -- the first part of the room is the first least-cost route, and the number returned is its cost
-  pub found-route : (s c l : ℕ) → a ≡ Found s c l
+  pub found-route : Searched f m q r a r′ → (s c l : ℕ) → a ≡ Found s c l
       → First (graph f m) (q .start) (q .goal) (take l (r′ .route)) × (costOf (graph f m) (q .start) (take l (r′ .route)) ≡ c)
-  found-route s c l e =
-      let w = from-row Kind.found (ap (λ (b : Answer). numbersOf b .kind) e) in
-      let p = w .passed in
-      let b = sym e ∙ w .answer in
-      let n : l ≡ length (given .route) = ap (λ (b : Answer). numbersOf b .length) b in
-      let t : take l (r′ .route) ≡ given .route = rw (w .route, n) (take-append-seam (given .route) (drop (length (given .route)) (r .route))) in
-      rw t (
-        found-first (law p) (q .start) (starts p) (x .table) (x .right p) (q .goal) (ends p) (q .limit) (w .kind),
-        found-cost (law p) (q .start) (starts p) (x .table) (x .right p) (q .goal) (ends p) (q .limit) (w .kind) ∙ sym (ap (λ (b : Answer). numbersOf b .number) b),
-      )
+  found-route (refused n w h b k) s c l e = absurd (zero-no-code Kind.found (ap (λ (b : Answer). numbersOf b .kind) (sym b ∙ e)))
+  found-route (passed p x) s c l e = found-by-table x p s c l e
 
   -- no route to the goal costs less than the floor
-  pub stopped-below : (s c : ℕ) → a ≡ Stopped s c → (ds : List ℕ) → Route (graph f m) (q .start) (q .goal) ds → c ≤ costOf (graph f m) (q .start) ds
-  stopped-below s c e ds w =
-      let y = from-row Kind.stopped (ap (λ (b : Answer). numbersOf b .kind) e) in
-      let p = y .passed in
-      let b = sym e ∙ y .answer in
-      rw (ap (λ (b : Answer). numbersOf b .number) b)
-      (stopped-floor (law p) (q .start) (starts p) (x .table) (x .right p) (q .goal) (ends p) (q .limit) (y .kind) ds w)
+  pub stopped-below : Searched f m q r a r′ → (s c : ℕ) → a ≡ Stopped s c → (ds : List ℕ) → Route (graph f m) (q .start) (q .goal) ds
+      → c ≤ costOf (graph f m) (q .start) ds
+  stopped-below (refused n w h b k) s c e ds y = absurd (zero-no-code Kind.stopped (ap (λ (b : Answer). numbersOf b .kind) (sym b ∙ e)))
+  stopped-below (passed p x) s c e ds y = stopped-by-table x p s c e ds y

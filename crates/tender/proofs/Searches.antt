@@ -17,8 +17,9 @@ use Rattle.floor.specs.Refusal.{screen}
 use Rattle.floor.proofs.Laws.{lawful}
 use Rattle.floor.proofs.Questions.{question-passed, start-inside}
 use Rattle.search.specs.declared.Answer.{Answer}
-use Rattle.search.specs.Search.{Question, Rooms, searchLines, rowOf, answered, outcome, after, Searched, numbersOf}
+use Rattle.search.specs.Search.{Question, Rooms, searchLines, rowOf, answered, ByTable, Searched, refused, passed, numbersOf}
 use Rattle.search.proofs.Lending.{search-question, searched-refused}
+use Rattle.search.proofs.Promise.{by-table, by-refusal}
 use Rattle.tender.specs.SearchTable.{SameLengths}
 use Rattle.tender.specs.Alone.{SameWritten}
 use Rattle.tender.proofs.Rowed.{given, as-row}
@@ -32,18 +33,13 @@ a-search f m q r = go (screen (searchLines f m q r)) refl
     go Passed e =
         let asked = search-question f m q r e in
         let t = right-exists (lawful f m (question-passed f m (q .start) (q .goal) asked)) (q .start) (start-inside f m (q .start) (q .goal) asked) in
-        (_, _, record { table = t .0; right = λ p. t .1; answer = refl; leaves = refl })
+        (_, _, passed e (record { table = t .0; right = t .1; answer = refl; leaves = refl }))
     go (Refused n w) e = (Answer.Refused n w, r, searched-refused f m q r n w e)
 
 -- the rooms keep their lengths, also when the question is refused
 pub search-lengths : {f : Floor} {m : List ℕ} {q : Question} {r : Rooms} {a : Answer} {r′ : Rooms} → Searched f m q r a r′ → SameLengths r r′
-search-lengths {f} {m} {q} {r} {a} {r′} x = go (screen (searchLines f m q r)) refl
-  where
-    go : (s : Screen) → screen (searchLines f m q r) ≡ s → SameLengths r r′
-    go Passed e = lengths-stay x e
-    go (Refused n w) e =
-        let same : r′ ≡ r = x .leaves ∙ ap (after f (x .table) (given x) r) e in
-        rw same (record { costs = refl; work = refl; route = refl })
+search-lengths (refused n w e b l) = rw l (record { costs = refl; work = refl; route = refl })
+search-lengths (passed e x) = lengths-stay x e
 
 -- no more of the route room is told of than the row's route
 answered-length : (k : Kind) (w : row.Answer) → numbersOf (answered k w) .length ≤ length (w .route)
@@ -51,7 +47,7 @@ answered-length Kind.found w = omega arith
 answered-length Kind.none w = omega arith
 answered-length Kind.stopped w = omega arith
 
-module _ {f : Floor} {m : List ℕ} {q : Question} {r : Rooms} {a : Answer} {r′ : Rooms} (x : Searched f m q r a r′)
+module _ {f : Floor} {m : List ℕ} {q : Question} {r : Rooms} {a : Answer} {r′ : Rooms} (x : ByTable f m q r a r′)
     (e : screen (searchLines f m q r) ≡ Passed) where
   costs-written : take (cells f) (r′ .costs) ≡ costsLeft (x .table) (given x .settled)
   costs-written =
@@ -63,33 +59,34 @@ module _ {f : Floor} {m : List ℕ} {q : Question} {r : Rooms} {a : Answer} {r�
 
   route-written : take (numbersOf a .length) (r′ .route) ≡ take (numbersOf a .length) (given x .route)
   route-written =
-      let told : numbersOf a .length ≤ length (given x .route) = rw (as-row x (given x .kind) e refl) (answered-length (given x .kind) (given x)) in
+      let told : numbersOf a .length ≤ length (given x .route) = rw (as-row x (given x .kind) refl) (answered-length (given x .kind) (given x)) in
       ap (take (numbersOf a .length)) (route-left x e)
       ∙ take-append-le (numbersOf a .length) (given x .route) (drop (length (given x .route)) (r .route)) told
 
-module _ {f : Floor} {m : List ℕ} {q : Question} {r p : Rooms} (same : SameLengths r p) {a b : Answer} {r′ p′ : Rooms}
-    (x : Searched f m q r a r′) (y : Searched f m q p b p′) where
-  same-screen : screen (searchLines f m q p) ≡ screen (searchLines f m q r)
-  same-screen = rw (same .costs, same .work, same .route) refl
+-- rooms of the same lengths are refused alike
+same-screen : (f : Floor) (m : List ℕ) (q : Question) {r p : Rooms} → SameLengths r p → screen (searchLines f m q p) ≡ screen (searchLines f m q r)
+same-screen f m q same = rw (same .costs, same .work, same .route) refl
+
+module _ {f : Floor} {m : List ℕ} {q : Question} {r p : Rooms} (same : SameLengths r p) {a b : Answer} {r′ p′ : Rooms} where
+  same-table : (x : ByTable f m q r a r′) (y : ByTable f m q p b p′) → x .table ≡ y .table
+  same-table x y = right-unique (graph f m) (q .start) (x .table) (y .table) (x .right) (y .right)
 
   -- an answer is that of its row, or the refusal
-  pub same-answer : a ≡ b
-  same-answer = go (screen (searchLines f m q r)) refl
-    where
-      go : (s : Screen) → screen (searchLines f m q r) ≡ s → a ≡ b
-      go Passed e =
-          let t = right-unique (graph f m) (q .start) (x .table) (y .table) (x .right e) (y .right (same-screen ∙ e)) in
-          x .answer ∙ ap (λ (s : Screen). outcome s (given x)) (sym same-screen) ∙ ap (λ (t : List ℕ). outcome (screen (searchLines f m q p)) (rowOf f m q t)) t ∙ sym (y .answer)
-      go (Refused n w) e =
-          x .answer ∙ ap (λ (s : Screen). outcome s (given x)) e ∙ sym (y .answer ∙ ap (λ (s : Screen). outcome s (given y)) (same-screen ∙ e))
+  pub same-answer : Searched f m q r a r′ → Searched f m q p b p′ → a ≡ b
+  same-answer (refused n w e c l) y = c ∙ sym (by-refusal y n w (same-screen f m q same ∙ e) .0)
+  same-answer (passed e x) z =
+      let y = by-table z (same-screen f m q same ∙ e) in
+      x .answer ∙ ap (λ (t : List ℕ). answered (rowOf f m q t .kind) (rowOf f m q t)) (same-table x y) ∙ sym (y .answer)
 
-  pub same-written : screen (searchLines f m q r) ≡ Passed → SameWritten f (numbersOf a .length) r′ p′
-  same-written e =
-      let k = same-screen ∙ e in
-      let t = right-unique (graph f m) (q .start) (x .table) (y .table) (x .right e) (y .right k) in
+  pub same-written : Searched f m q r a r′ → Searched f m q p b p′ → screen (searchLines f m q r) ≡ Passed → SameWritten f (numbersOf a .length) r′ p′
+  same-written v w e =
+      let k = same-screen f m q same ∙ e in
+      let x = by-table v e in
+      let y = by-table w k in
+      let t = same-table x y in
       record {
         costs = costs-written x e ∙ ap (λ (t : List ℕ). costsLeft t (rowOf f m q t .settled)) t ∙ sym (costs-written y k);
         work = work-written x e ∙ sym (work-written y k);
         route = route-written x e ∙ ap (λ (t : List ℕ). take (numbersOf a .length) (rowOf f m q t .route)) t
-            ∙ rw same-answer (sym (route-written y k));
+            ∙ rw (same-answer v w) (sym (route-written y k));
       }

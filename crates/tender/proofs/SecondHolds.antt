@@ -14,6 +14,7 @@ use Rattle.maptext.proofs.Texts.{reads-back}
 use Rattle.claims.specs.declared.TableVerdict.{TableVerdict}
 use Rattle.claims.specs.Table.{tableVerdict}
 use Rattle.claims.proofs.Claims.{holds-exactly, right-exactly, settles-none, settles-cost}
+use Rattle.search.proofs.Promise.{by-table}
 use Rattle.tender.specs.SecondCondition.{SecondCondition}
 use Rattle.tender.proofs.Tabled.{table-holds}
 
@@ -32,8 +33,8 @@ none-claimed f m s t right goal inside = (
 -- The second condition of the tender
 pub second-condition : SecondCondition
 second-condition = record {
-  search = λ f m q r a r′ x p. table-holds x p;
-  call = λ f m q r n r′ x p. rw (x .numbers) (table-holds (x .searched) p);
+  search = λ f m q r a r′ x p. table-holds (by-table x p) p;
+  call = λ f m q r n r′ x p. rw (x .numbers) (table-holds (by-table (x .searched) p) p);
   route-claim = λ f m c p. (
     λ e. let w = holds-exactly f m c (c .cost) .0 e .0 in (w .route, w .costs),
     λ w. holds-exactly f m c (c .cost) .1 (record { passed = p; route = w .0; costs = w .1 }, refl),

@@ -25,7 +25,7 @@ use Rattle.floor.specs.Step.{graph}
 use Rattle.floor.specs.Refusal.{screen}
 use Rattle.search.specs.declared.Answer.{Answer}
 use Rattle.search.specs.declared.AnswerNumbers.{AnswerNumbers}
-use Rattle.search.specs.Search.{Question, Rooms, searchLines, answered, Searched, numbersOf}
+use Rattle.search.specs.Search.{Question, Rooms, searchLines, answered, ByTable, numbersOf}
 use Rattle.tender.specs.SearchTable.{GoalWithin, GoalMissing, Otherwise, BeginsWithRoute, Answers, TableHolds}
 use Rattle.tender.proofs.Rowed.{given, law, starts, ends, settled-is, code-answered, from-row, as-row}
 use Rattle.tender.proofs.Leaving.{costs-left, work-left, route-left, costs-cover, work-cover, lengths-stay}
@@ -38,7 +38,7 @@ no-refusal Kind.found w = (refl, refl)
 no-refusal Kind.none w = (refl, refl)
 no-refusal Kind.stopped w = (refl, refl)
 
-module _ {f : Floor} {m : List ℕ} {q : Question} {r : Rooms} {a : Answer} {r′ : Rooms} (x : Searched f m q r a r′)
+module _ {f : Floor} {m : List ℕ} {q : Question} {r : Rooms} {a : Answer} {r′ : Rooms} (x : ByTable f m q r a r′)
     (p : screen (searchLines f m q r) ≡ Passed) where
   abbrev t : List ℕ
   t = x .table
@@ -49,28 +49,28 @@ module _ {f : Floor} {m : List ℕ} {q : Question} {r : Rooms} {a : Answer} {r�
   -- a cell stands in L exactly when it is reachable, at the place that the definitions compute
   standing : (i v : ℕ) → At l i v → Reachable (graph f m) (q .start) v × (place v l ≡ i)
   standing i v s = (
-    L-members (law x p) (q .start) (starts x p) t (x .right p) v .0 (at-in l i v s),
-    one-place (law x p) (q .start) (starts x p) t (x .right p) i v s,
+    L-members (law x p) (q .start) (starts x p) t (x .right) v .0 (at-in l i v s),
+    one-place (law x p) (q .start) (starts x p) t (x .right) i v s,
   )
 
   stands : (v : ℕ) → Reachable (graph f m) (q .start) v → At l (place v l) v
-  stands v w = in-place l v (L-members (law x p) (q .start) (starts x p) t (x .right p) v .1 w)
+  stands v w = in-place l v (L-members (law x p) (q .start) (starts x p) t (x .right) v .1 w)
 
   -- the kind of the answer is that of its row
   kind-is : (k : Kind) → (numbersOf a .kind ≡ code k) ↔ (given x .kind ≡ k)
   kind-is k = (
     λ e. from-row x k e .kind,
-    λ h. ap (λ (b : Answer). numbersOf b .kind) (as-row x k p h) ∙ code-answered k (given x),
+    λ h. ap (λ (b : Answer). numbersOf b .kind) (as-row x k h) ∙ code-answered k (given x),
   )
 
   when-found : (given x .kind ≡ Kind.found) ↔ GoalWithin l q
-  when-found = Iff·trans (found-exactly (law x p) (q .start) (starts x p) t (x .right p) (q .goal) (ends x p) (q .limit)) (
+  when-found = Iff·trans (found-exactly (law x p) (q .start) (starts x p) t (x .right) (q .goal) (ends x p) (q .limit)) (
     λ w. record { i = place (q .goal) l; place = stands (q .goal) (w .0); within = w .1 },
     λ w. let s = standing (w .i) (q .goal) (w .place) in (s .0, omega (arith, s .1, w .within)),
   )
 
   when-none : (given x .kind ≡ Kind.none) ↔ GoalMissing l q
-  when-none = Iff·trans (none-exactly (law x p) (q .start) (starts x p) t (x .right p) (q .goal) (ends x p) (q .limit)) (
+  when-none = Iff·trans (none-exactly (law x p) (q .start) (starts x p) t (x .right) (q .goal) (ends x p) (q .limit)) (
     λ w. record { nowhere = λ i s. w .0 (standing i (q .goal) s .0); covered = w .1 },
     λ w. (λ s. w .nowhere (place (q .goal) l) (stands (q .goal) s), w .covered),
   )
@@ -93,40 +93,40 @@ module _ {f : Floor} {m : List ℕ} {q : Question} {r : Rooms} {a : Answer} {r�
   row-found : given x .kind ≡ Kind.found
       → given x ≡ record { kind = Kind.found; settled = place (q .goal) l + 1; number = getD t (q .goal) 0; route = firstRoute (graph f m) (q .start) t (q .goal) }
   row-found k =
-      found-is (law x p) (q .start) (starts x p) t (x .right p) (q .goal) (ends x p) (q .limit)
-      (found-exactly (law x p) (q .start) (starts x p) t (x .right p) (q .goal) (ends x p) (q .limit) .0 k)
+      found-is (law x p) (q .start) (starts x p) t (x .right) (q .goal) (ends x p) (q .limit)
+      (found-exactly (law x p) (q .start) (starts x p) t (x .right) (q .goal) (ends x p) (q .limit) .0 k)
 
   row-none : given x .kind ≡ Kind.none → given x ≡ record { kind = Kind.none; settled = length l; number = MARK; route = [] }
   row-none k =
-      none-is (law x p) (q .start) (starts x p) t (x .right p) (q .goal) (ends x p) (q .limit)
-      (none-exactly (law x p) (q .start) (starts x p) t (x .right p) (q .goal) (ends x p) (q .limit) .0 k)
+      none-is (law x p) (q .start) (starts x p) t (x .right) (q .goal) (ends x p) (q .limit)
+      (none-exactly (law x p) (q .start) (starts x p) t (x .right) (q .goal) (ends x p) (q .limit) .0 k)
 
   further : given x .kind ≡ Kind.stopped → q .limit < length l
-  further k = stopped-exactly (law x p) (q .start) (starts x p) t (x .right p) (q .goal) (ends x p) (q .limit) .0 k .0
+  further k = stopped-exactly (law x p) (q .start) (starts x p) t (x .right) (q .goal) (ends x p) (q .limit) .0 k .0
 
   row-stopped : given x .kind ≡ Kind.stopped
       → given x ≡ record { kind = Kind.stopped; settled = q .limit; number = getD t (getD l (q .limit) 0) 0; route = [] }
   row-stopped k =
-      stopped-is (law x p) (q .start) (starts x p) t (x .right p) (q .goal) (ends x p) (q .limit)
-      (stopped-exactly (law x p) (q .start) (starts x p) t (x .right p) (q .goal) (ends x p) (q .limit) .0 k)
+      stopped-is (law x p) (q .start) (starts x p) t (x .right) (q .goal) (ends x p) (q .limit)
+      (stopped-exactly (law x p) (q .start) (starts x p) t (x .right) (q .goal) (ends x p) (q .limit) .0 k)
 
   -- the numbers of an answer of that kind, when its row is known
   columns : (k : Kind) {w : row.Answer} → given x .kind ≡ k → given x ≡ w → numbersOf a ≡ numbersOf (answered k w)
-  columns k h e = ap numbersOf (as-row x k p h ∙ ap (answered k) e)
+  columns k h e = ap numbersOf (as-row x k h ∙ ap (answered k) e)
 
   -- the route room of a row without a route
   route-kept : {w : row.Answer} → given x ≡ w → w .route ≡ [] → r′ .route ≡ r .route
   route-kept e z = route-left x p ∙ ap (λ (ds : List ℕ). ds ++ drop (length ds) (r .route)) (ap (λ (w : row.Answer). w .route) e ∙ z)
 
   value-least : (v : ℕ) → Reachable (graph f m) (q .start) v → Least (graph f m) (q .start) v (getD t v 0)
-  value-least = reached-value (law x p) (q .start) (starts x p) t (x .right p)
+  value-least = reached-value (law x p) (q .start) (starts x p) t (x .right)
 
   begins : given x .kind ≡ Kind.found → BeginsWithRoute f m q (numbersOf a .length) (r .route) (r′ .route)
   begins k =
       let n : numbersOf a .length ≡ length (given x .route) = ap (λ (b : AnswerNumbers). b .length) (columns Kind.found k refl) in
       record {
         way = given x .route;
-        first = found-first (law x p) (q .start) (starts x p) t (x .right p) (q .goal) (ends x p) (q .limit) k;
+        first = found-first (law x p) (q .start) (starts x p) t (x .right) (q .goal) (ends x p) (q .limit) k;
         steps = n;
         leaves = rw n (route-left x p);
       }
@@ -143,28 +143,28 @@ module _ {f : Floor} {m : List ℕ} {q : Question} {r : Rooms} {a : Answer} {r�
   cell-left v h =
       ap (λ (c : List ℕ). getD c v 0) (costs-left x p)
       ∙ List·getD-append (costsLeft t (given x .settled)) (drop (cells f) (r .costs)) 0 v (omega (arith, costs-cover x p))
-      ∙ ap (λ (k : ℕ). getD (costsLeft t k) v 0) (sym (settled-is x p))
+      ∙ ap (λ (k : ℕ). getD (costsLeft t k) v 0) (sym (settled-is x))
 
   settled-cost : (i v : ℕ) → At l i v → i < numbersOf a .settled → Least (graph f m) (q .start) v (getD (r′ .costs) v 0)
   settled-cost i v s h =
       let w = standing i v s in
       let inside = ends-inside (law x p) (q .start) (starts x p) v (w .0) in
-      let e = cell-left v inside ∙ settled-left t (numbersOf a .settled) v (omega (arith, x .right p .covers)) (omega (arith, w .1)) in
+      let e = cell-left v inside ∙ settled-left t (numbersOf a .settled) v (omega (arith, x .right .covers)) (omega (arith, w .1)) in
       rw e (value-least v (w .0))
 
   other-mark : (v : ℕ) → v < cells f → ((i : ℕ) → At l i v → numbersOf a .settled ≤ i) → getD (r′ .costs) v 0 ≡ MARK
   other-mark v h out = go (decLt (place v l) (numbersOf a .settled)) (ℕ-discrete (getD t v 0) MARK)
     where
       go : Dec (place v l < numbersOf a .settled) → Dec (getD t v 0 ≡ MARK) → getD (r′ .costs) v 0 ≡ MARK
-      go (no k) c = cell-left v h ∙ unsettled-left t (numbersOf a .settled) v (omega (arith, x .right p .covers)) (omega arith)
-      go (yes k) (yes c) = cell-left v h ∙ settled-left t (numbersOf a .settled) v (omega (arith, x .right p .covers)) k ∙ c
+      go (no k) c = cell-left v h ∙ unsettled-left t (numbersOf a .settled) v (omega (arith, x .right .covers)) (omega arith)
+      go (yes k) (yes c) = cell-left v h ∙ settled-left t (numbersOf a .settled) v (omega (arith, x .right .covers)) k ∙ c
       go (yes k) (no c) =
-          let w = reachable-known (law x p) (q .start) (starts x p) t (x .right p) v h .1 c in
+          let w = reachable-known (law x p) (q .start) (starts x p) t (x .right) v h .1 c in
           absurd (omega (arith, out (place v l) (stands v w)))
 
   pub answers : Answers f m q l (numbersOf a) r r′
   answers = record {
-    not-refused = rw (as-row x (given x .kind) p refl) (no-refusal (given x .kind) (given x));
+    not-refused = rw (as-row x (given x .kind) refl) (no-refusal (given x .kind) (given x));
     found = Iff·trans (kind-is Kind.found) when-found;
     found-settled = λ w.
         let k = when-found .1 w in
@@ -196,7 +196,7 @@ module _ {f : Floor} {m : List ℕ} {q : Question} {r : Rooms} {a : Answer} {r�
   pub table-holds : TableHolds f m q (numbersOf a) r r′
   table-holds = (
     l,
-    computed-is-L (law x p) (q .start) (starts x p) t (x .right p),
-    L-is-computed (law x p) (q .start) (starts x p) t (x .right p),
+    computed-is-L (law x p) (q .start) (starts x p) t (x .right),
+    L-is-computed (law x p) (q .start) (starts x p) t (x .right),
     answers,
   )
