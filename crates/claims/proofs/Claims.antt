@@ -1,10 +1,10 @@
 -- What the verdicts mean: the theorems, each from the laws in the files beside this one.
 use mathlib.Core.Path.{_≡_, refl, sym, _∙_, ap}
 use mathlib.Core.Logic.{_↔_, _≢_}
-use mathlib.Core.List.{List, [], _∷_, _++_, append-nil}
+use mathlib.Core.List.{List, [], _∷_, append-nil}
 use Prim.Native.Nat.{ℕ, _/_, _%_, _≤_, _<_}
 use native.Mathlib.Omega.{arith}
-use borrow.Author.Tests.{eq-eqb, ne-eqb}
+use borrow.Author.Tests.{eq-eqb}
 use lib.Arith.{digits-div, digits-mod}
 use lib.Dec.{T}
 use lib.ListN.{length, getD, take}
@@ -14,26 +14,49 @@ use Rattle.paths.specs.Route.{walks, ends, costOf, Route, Least}
 use Rattle.paths.specs.Table.{Right, due, Obeys}
 use Rattle.paths.proofs.Meaning.{rule-is-right}
 use Rattle.floor.specs.declared.Floor.{Floor}
-use Rattle.floor.specs.declared.Reason.{Reason}
 use Rattle.floor.specs.declared.Screen.{Screen}
 use Rattle.floor.specs.declared.Screen.the-variants.{Passed}
-use Rattle.floor.specs.declared.Step.the-variants.{Barred}
 use Rattle.floor.specs.Place.{cells}
 use Rattle.floor.specs.Refusal.{screen}
-use Rattle.floor.specs.Step.{stepOf, graph}
+use Rattle.floor.specs.Step.{graph}
 use Rattle.floor.proofs.Laws.{lawful}
+use Rattle.floor.specs.Numbers.{Numbers, refused, fault, gives}
 use Rattle.claims.specs.declared.RouteVerdict.{RouteVerdict}
 use Rattle.claims.specs.declared.RouteVerdict.the-variants.{Fault, Holds}
 use Rattle.claims.specs.declared.TableVerdict.{TableVerdict}
 use Rattle.claims.specs.declared.TableVerdict.the-variants.{Breaks}
-use Rattle.claims.specs.Route.{Claim, IsTrue, claimLines, faultOf, arrived, tried, routeVerdict, numberOf, valueOf, packed}
-use Rattle.claims.specs.Table.{IsLowest, tableLines, owed, tableVerdict}
+use Rattle.claims.specs.Route as route
+use Rattle.claims.specs.Table as table
+use Rattle.claims.specs.Route.{Claim, holds, IsTrue, claimLines, arrived, tried, routeVerdict, numberOf, valueOf, packed}
+use Rattle.claims.specs.Table.{IsLowest, tableLines, owed, right, breaksAt, tableVerdict}
 use Rattle.floor.proofs.Questions.{start-inside, start-open}
 use Rattle.claims.proofs.Passing.{claim-question, table-question, table-passed, table-covers}
 use Rattle.claims.proofs.Holding.{passed-holds, holds-ends, walked, stands}
 use Rattle.claims.proofs.Packing.{value-small, route-refused-lines, zero-holds}
 use Rattle.claims.proofs.Keeping.{owed-is-due, unbroken-obeys, obeys-unbroken}
 use Rattle.claims.proofs.Judging.{right-unbroken, unbroken-right, breaks-lowest, lowest-breaks, table-refused-lines}
+
+-- a verdict is the only one with its numbers
+abbrev pub routeOf : Numbers → RouteVerdict
+routeOf (refused n p) = RouteVerdict.Refused n p
+routeOf (fault n p) = Fault n p
+routeOf (gives vs) = Holds (getD vs 0 0)
+
+pub route-back : (v : RouteVerdict) → routeOf (route.numbersOf v) ≡ v
+route-back (RouteVerdict.Refused n p) = refl
+route-back (Fault n p) = refl
+route-back (Holds k) = refl
+
+abbrev pub tableOf : Numbers → TableVerdict
+tableOf (refused n p) = TableVerdict.Refused n p
+tableOf (fault n p) = TableVerdict.Right
+tableOf (gives []) = TableVerdict.Right
+tableOf (gives (b ∷ bs)) = Breaks b
+
+pub table-back : (v : TableVerdict) → tableOf (table.numbersOf v) ≡ v
+table-back (TableVerdict.Refused n p) = refl
+table-back TableVerdict.Right = refl
+table-back (Breaks b) = refl
 
 -- A claimed route
 module _ (f : Floor) (m : List ℕ) (c : Claim) where
@@ -42,19 +65,13 @@ module _ (f : Floor) (m : List ℕ) (c : Claim) where
 
   module _ (passed : screen (claimLines f m c) ≡ Passed) where
     -- a claim that is not refused is answered by its steps
-    by-steps : routeVerdict f m c ≡ tried f m c (c .start) 0 0 (c .route)
+    pub by-steps : routeVerdict f m c ≡ tried f m c (c .start) 0 0 (c .route)
     unfolding routeVerdict
     by-steps = rw passed
 
-    after-all : T (walks g (c .start) (c .route))
+    pub after-all : T (walks g (c .start) (c .route))
         → routeVerdict f m c ≡ arrived c (ends g (c .start) (c .route)) (length (c .route)) (costOf g (c .start) (c .route))
     after-all t = by-steps ∙ ap (tried f m c (c .start) 0 0) (sym (append-nil (c .route))) ∙ walked f m c (c .route) [] (c .start) t
-
-    -- The first step that is not allowed is answered, by its fault and its place
-    pub first-fault : (ds es : List ℕ) (d : ℕ) (r : Reason) → c .route ≡ ds ++ (d ∷ es) → T (walks g (c .start) ds)
-        → stepOf f m (ends g (c .start) ds) d ≡ Barred r → routeVerdict f m c ≡ Fault (faultOf r) (length ds)
-    first-fault ds es d r e t b =
-        by-steps ∙ ap (tried f m c (c .start) 0 0) e ∙ walked f m c ds (d ∷ es) (c .start) t ∙ rw b
 
     -- The cell that a step leaves is on the map and open
     pub leaves-open : (ds : List ℕ) → T (walks g (c .start) ds) → (ends g (c .start) ds < cells f) × (0 < getD m (ends g (c .start) ds) 0)
@@ -62,18 +79,8 @@ module _ (f : Floor) (m : List ℕ) (c : Claim) where
         let q = claim-question f m c passed in
         stands f m c ds (c .start) (start-inside f m (c .start) (c .goal) q) (omega (arith, start-open f m (c .start) (c .goal) q)) t
 
-    -- After the last step: 45 for another end, then 46 for another cost
-    pub not-at-goal : T (walks g (c .start) (c .route)) → ends g (c .start) (c .route) ≢ c .goal → routeVerdict f m c ≡ Fault 45 (length (c .route))
-    unfolding arrived
-    not-at-goal t n = after-all t ∙ rw (ne-eqb (ends g (c .start) (c .route)) (c .goal) n)
-
-    pub cost-differs : Route g (c .start) (c .goal) (c .route) → costOf g (c .start) (c .route) ≢ c .cost → routeVerdict f m c ≡ Fault 46 (length (c .route))
-    unfolding arrived
-    cost-differs w n =
-        after-all (w .allowed) ∙ rw (eq-eqb (ends g (c .start) (c .route)) (c .goal) (w .arrives), ne-eqb (costOf g (c .start) (c .route)) (c .cost) n)
-
   -- "Holds" is answered exactly for a true claim, with its cost
-  pub holds-exactly : (k : ℕ) → (routeVerdict f m c ≡ Holds k) ↔ (IsTrue f m c × (k ≡ c .cost))
+  pub holds-exactly : (k : ℕ) → (routeVerdict f m c ≡ holds k) ↔ (IsTrue f m c × (k ≡ c .cost))
   unfolding routeVerdict arrived
   holds-exactly k = (
     λ e.
@@ -83,11 +90,11 @@ module _ (f : Floor) (m : List ℕ) (c : Claim) where
     λ x.
         let w = x .0 .route in
         after-all (x .0 .passed) (w .allowed)
-        ∙ rw (eq-eqb (ends g (c .start) (c .route)) (c .goal) (w .arrives), eq-eqb (costOf g (c .start) (c .route)) (c .cost) (x .0 .costs)) (ap Holds (x .0 .costs ∙ sym (x .1))),
+        ∙ rw (eq-eqb (ends g (c .start) (c .route)) (c .goal) (w .arrives), eq-eqb (costOf g (c .start) (c .route)) (c .cost) (x .0 .costs)) (ap holds (x .0 .costs ∙ sym (x .1))),
   )
 
   -- A claim is refused exactly as the lines say
-  pub route-refused-exactly : (n p : ℕ) → (routeVerdict f m c ≡ RouteVerdict.Refused n p) ↔ (screen (claimLines f m c) ≡ Screen.Refused n p)
+  pub route-refused-exactly : (n p : ℕ) → (routeVerdict f m c ≡ refused n p) ↔ (screen (claimLines f m c) ≡ Screen.Refused n p)
   unfolding routeVerdict
   route-refused-exactly n p = (route-refused-lines f m c n p, λ e. rw e)
 
@@ -107,8 +114,8 @@ module _ (f : Floor) (m : List ℕ) (c : Claim) where
   )
 
   -- A second verdict that meets the promise is equal
-  pub one-route-verdict : (v w : RouteVerdict) → v ≡ routeVerdict f m c → w ≡ routeVerdict f m c → v ≡ w
-  one-route-verdict v w p q = p ∙ sym q
+  pub one-route-verdict : (v w : RouteVerdict) → route.numbersOf v ≡ routeVerdict f m c → route.numbersOf w ≡ routeVerdict f m c → v ≡ w
+  one-route-verdict v w p q = sym (route-back v) ∙ ap routeOf (p ∙ sym q) ∙ route-back w
 
 -- A claimed cost table
 module _ (f : Floor) (m : List ℕ) (s : ℕ) (t : List ℕ) where
@@ -124,7 +131,7 @@ module _ (f : Floor) (m : List ℕ) (s : ℕ) (t : List ℕ) where
     owed-due v = owed-is-due f m s t opens v
 
   -- "Right" is answered exactly for the right table; entries past the first width × height are not looked at
-  pub right-exactly : (tableVerdict f m s t ≡ TableVerdict.Right) ↔ ((screen (tableLines f m s t) ≡ Passed) × Right (graph f m) s (take (cells f) t))
+  pub right-exactly : (tableVerdict f m s t ≡ right) ↔ ((screen (tableLines f m s t) ≡ Passed) × Right (graph f m) s (take (cells f) t))
   right-exactly = (
     λ e.
         let p = right-unbroken f m s t e in
@@ -135,18 +142,18 @@ module _ (f : Floor) (m : List ℕ) (s : ℕ) (t : List ℕ) where
   )
 
   -- Otherwise, if it is not refused, the lowest cell that breaks the rule is answered
-  pub breaks-exactly : (b : ℕ) → (tableVerdict f m s t ≡ Breaks b) ↔ ((screen (tableLines f m s t) ≡ Passed) × IsLowest f m s t b)
+  pub breaks-exactly : (b : ℕ) → (tableVerdict f m s t ≡ breaksAt b) ↔ ((screen (tableLines f m s t) ≡ Passed) × IsLowest f m s t b)
   breaks-exactly b = (
     λ e. let p = breaks-lowest f m s t b e in (p .0, p .1),
     λ x. lowest-breaks f m s t b (x .0) (x .1),
   )
 
   -- A table is refused exactly as the lines say
-  pub table-refused-exactly : (n p : ℕ) → (tableVerdict f m s t ≡ TableVerdict.Refused n p) ↔ (screen (tableLines f m s t) ≡ Screen.Refused n p)
+  pub table-refused-exactly : (n p : ℕ) → (tableVerdict f m s t ≡ refused n p) ↔ (screen (tableLines f m s t) ≡ Screen.Refused n p)
   unfolding tableVerdict
   table-refused-exactly n p = (table-refused-lines f m s t n p, λ e. rw e)
 
-  module _ (right : tableVerdict f m s t ≡ TableVerdict.Right) (goal : ℕ) (inside : goal < cells f) where
+  module _ (right : tableVerdict f m s t ≡ right) (goal : ℕ) (inside : goal < cells f) where
     -- A right table settles a claimed "none": MARK at the goal means that there is no route
     pub settles-none : getD t goal 0 ≡ MARK → (ds : List ℕ) → Route (graph f m) s goal ds → ⊥
     settles-none e = right-exactly .0 right .1 .closed goal inside (getD-take (cells f) t goal 0 inside ∙ e)
@@ -158,5 +165,5 @@ module _ (f : Floor) (m : List ℕ) (s : ℕ) (t : List ℕ) where
         rw e at (right-exactly .0 right .1 .reached goal inside (rw e n))
 
   -- A second verdict that meets the promise is equal
-  pub one-table-verdict : (v w : TableVerdict) → v ≡ tableVerdict f m s t → w ≡ tableVerdict f m s t → v ≡ w
-  one-table-verdict v w p q = p ∙ sym q
+  pub one-table-verdict : (v w : TableVerdict) → table.numbersOf v ≡ tableVerdict f m s t → table.numbersOf w ≡ tableVerdict f m s t → v ≡ w
+  one-table-verdict v w p q = sym (table-back v) ∙ ap tableOf (p ∙ sym q) ∙ table-back w

@@ -16,7 +16,7 @@ use Rattle.floor.specs.Step.{greatestStep, stepOf}
 use Rattle.floor.proofs.Passing.{facts, few-cells}
 use Rattle.floor.proofs.Allowed.{leads}
 use Rattle.floor.proofs.Laws.{lawful}
-use Rattle.claims.specs.declared.RouteVerdict.the-variants.{Fault}
+use Rattle.floor.specs.Numbers.{fault}
 use Rattle.claims.specs.Route.{Claim, claimLines, faultOf, arrived, onStep, tried}
 use Rattle.claims.proofs.Passing.{claim-passed, claim-short}
 
@@ -46,7 +46,7 @@ module _ {f : Floor} {m : List ℕ} {c : Claim} {v k i : ℕ} (b : Behind f m c 
   }
 
   pub barred : {r : Reason} → i < length (c .route) → stepOf f m v (getD (c .route) i 0) ≡ Barred r
-      → tried f m c (c .start) 0 0 (c .route) ≡ Fault (faultOf r) i
+      → tried f m c (c .start) 0 0 (c .route) ≡ fault (faultOf r) i
   barred h e = next h ∙ rw e
 
   pub all-behind : length (c .route) ≤ i → tried f m c (c .start) 0 0 (c .route) ≡ arrived c v i k

@@ -18,11 +18,10 @@ use Rattle.floor.specs.Step.{target, stepCost, stepOf, allowed, graph}
 use Rattle.floor.specs.Place.{cells}
 use Rattle.floor.proofs.Laws.{reaches-map, reaches-open}
 use Rattle.floor.proofs.Allowed.{allowed-is, step-is, leads}
-use Rattle.claims.specs.declared.RouteVerdict.{RouteVerdict}
-use Rattle.claims.specs.declared.RouteVerdict.the-variants.{Holds}
-use Rattle.claims.specs.Route.{Claim, arrived, onStep, tried, screened}
+use Rattle.floor.specs.Numbers.{Numbers, afterScreen}
+use Rattle.claims.specs.Route.{Claim, holds, arrived, onStep, tried}
 
-pub passed-holds : (x : Screen) (v : RouteVerdict) (k : ℕ) → screened x v ≡ Holds k → (x ≡ Passed) × (v ≡ Holds k)
+pub passed-holds : (x : Screen) (v : Numbers) (k : ℕ) → afterScreen x v ≡ holds k → (x ≡ Passed) × (v ≡ holds k)
 passed-holds Passed v k e = (refl, e)
 passed-holds (Screen.Refused n p) v k e = let z : _≡_ {A = ℕ} 0 1 = cc in absurd (omega arith)
 
@@ -32,12 +31,12 @@ pub record Ends (f : Floor) (m : List ℕ) (c : Claim) (v k : ℕ) (ds : List �
   pub costs : k + costOf (graph f m) v ds ≡ c .cost
 
 module _ (f : Floor) (m : List ℕ) (c : Claim) where
-  pub holds-ends : (ds : List ℕ) (v i k n : ℕ) → tried f m c v i k ds ≡ Holds n → Ends f m c v k ds × (n ≡ c .cost)
+  pub holds-ends : (ds : List ℕ) (v i k n : ℕ) → tried f m c v i k ds ≡ holds n → Ends f m c v k ds × (n ≡ c .cost)
   unfolding arrived
   holds-ends [] v i k n =
-      by-cond (λ (x : RouteVerdict). x ≡ Holds n → Ends f m c v k [] × (n ≡ c .cost)) (not (eqb v (c .goal))) _ _
+      by-cond (λ (x : Numbers). x ≡ holds n → Ends f m c v k [] × (n ≡ c .cost)) (not (eqb v (c .goal))) _ _
       (λ h e. let z : _≡_ {A = ℕ} 0 1 = cc in absurd (omega arith))
-      (λ h. by-cond (λ (x : RouteVerdict). x ≡ Holds n → Ends f m c v k [] × (n ≡ c .cost)) (not (eqb k (c .cost))) _ _
+      (λ h. by-cond (λ (x : Numbers). x ≡ holds n → Ends f m c v k [] × (n ≡ c .cost)) (not (eqb k (c .cost))) _ _
       (λ l e. let z : _≡_ {A = ℕ} 0 1 = cc in absurd (omega arith))
       (λ l e.
       let q = eqb→eq k (c .cost) (T-not-not (eqb k (c .cost)) l) in
@@ -45,8 +44,8 @@ module _ (f : Floor) (m : List ℕ) (c : Claim) where
       (record { route = record { allowed = tt; arrives = r }; costs = omega arith }, cc)))
   holds-ends (d ∷ ds) v i k n = go (stepOf f m v d) refl (λ w s. holds-ends ds w (suc i) (k + s) n)
     where
-      go : (x : Step) → stepOf f m v d ≡ x → ((w s : ℕ) → tried f m c w (suc i) (k + s) ds ≡ Holds n → Ends f m c w (k + s) ds × (n ≡ c .cost))
-          → onStep x i (λ w s. tried f m c w (suc i) (k + s) ds) ≡ Holds n → Ends f m c v k (d ∷ ds) × (n ≡ c .cost)
+      go : (x : Step) → stepOf f m v d ≡ x → ((w s : ℕ) → tried f m c w (suc i) (k + s) ds ≡ holds n → Ends f m c w (k + s) ds × (n ≡ c .cost))
+          → onStep x i (λ w s. tried f m c w (suc i) (k + s) ds) ≡ holds n → Ends f m c v k (d ∷ ds) × (n ≡ c .cost)
       go (Barred r) q ih e = let z : _≡_ {A = ℕ} 0 1 = cc in absurd (omega arith)
       go (To w s) q ih e =
           let l = leads f m v d q in

@@ -5,3 +5,5 @@ pub mod Keeping
 pub mod Judging
 pub mod Holding
 pub mod Claims
+pub mod Faults
+pub mod Collecting

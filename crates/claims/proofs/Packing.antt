@@ -21,9 +21,8 @@ use Rattle.floor.specs.Place.{hasSides, cells}
 use Rattle.floor.specs.Refusal.{Line, screen, firstAbove}
 use Rattle.floor.specs.Step.{stepOf}
 use Rattle.floor.proofs.Passing.{sides, facts, few-cells}
-use Rattle.claims.specs.declared.RouteVerdict.{RouteVerdict}
-use Rattle.claims.specs.declared.RouteVerdict.the-variants.{Fault, Holds}
-use Rattle.claims.specs.Route.{Claim, claimLines, faultOf, arrived, onStep, tried, screened, routeVerdict, numberOf, valueOf}
+use Rattle.floor.specs.Numbers.{Numbers, refused, fault, gives, afterScreen}
+use Rattle.claims.specs.Route.{Claim, holds, claimLines, faultOf, arrived, onStep, tried, routeVerdict, numberOf, valueOf}
 use Rattle.claims.proofs.Passing.{claim-passed, claim-short}
 
 abbrev placeIn : Screen → ℕ
@@ -47,10 +46,10 @@ unfolding firstAbove
 first-above-at-most m = lowest-is _ (length m) .small
 
 -- what an answer can be after `Passed`
-abbrev Told : RouteVerdict → Type 0
-Told (RouteVerdict.Refused n p) = ⊥
-Told (Fault n p) = 0 < n
-Told (Holds k) = Unit {0}
+abbrev Told : Numbers → Type 0
+Told (refused n p) = ⊥
+Told (fault n p) = 0 < n
+Told (gives vs) = (k : ℕ) × (vs ≡ k ∷ [])
 
 fault-positive : (r : Reason) → 0 < faultOf r
 fault-positive NoSuchDirection = omega arith
@@ -88,8 +87,8 @@ module _ (f : Floor) (m : List ℕ) (c : Claim) where
   tried-small : (ds : List ℕ) (v i k : ℕ) → c .cost ≤ MARK → i + length ds ≤ MARK → valueOf (tried f m c v i k ds) ≤ MARK
   unfolding arrived
   tried-small [] v i k h l =
-      by-cond (λ (x : RouteVerdict). valueOf x ≤ MARK) (not (eqb v (c .goal))) _ _ (λ t. omega arith)
-      (λ t. by-cond (λ (x : RouteVerdict). valueOf x ≤ MARK) (not (eqb k (c .cost))) _ _ (λ u. omega arith)
+      by-cond (λ (x : Numbers). valueOf x ≤ MARK) (not (eqb v (c .goal))) _ _ (λ t. omega arith)
+      (λ t. by-cond (λ (x : Numbers). valueOf x ≤ MARK) (not (eqb k (c .cost))) _ _ (λ u. omega arith)
       (λ u. omega (arith, eqb→eq k (c .cost) (T-not-not (eqb k (c .cost)) u))))
   tried-small (d ∷ ds) v i k h l = go (stepOf f m v d) (λ w s. tried-small ds w (suc i) (k + s) h (omega arith))
     where
@@ -102,7 +101,7 @@ module _ (f : Floor) (m : List ℕ) (c : Claim) where
   unfolding routeVerdict
   value-small h = go (screen (claimLines f m c)) refl
     where
-      go : (x : Screen) → screen (claimLines f m c) ≡ x → valueOf (screened x (tried f m c (c .start) 0 0 (c .route))) ≤ MARK
+      go : (x : Screen) → screen (claimLines f m c) ≡ x → valueOf (afterScreen x (tried f m c (c .start) 0 0 (c .route))) ≤ MARK
       go Passed e = tried-small (c .route) (c .start) 0 0 h (omega (arith, claim-short f m c e, few-cells (facts f m (claim-passed f m c e) .map)))
       go (Refused n p) e = omega (arith, refused-small, ap placeIn e)
 
@@ -111,28 +110,28 @@ module _ (f : Floor) (m : List ℕ) (c : Claim) where
   unfolding arrived
   told [] v i k =
       by-cond Told (not (eqb v (c .goal))) _ _ (λ h. omega arith)
-      (λ h. by-cond Told (not (eqb k (c .cost))) _ _ (λ l. omega arith) (λ l. tt))
+      (λ h. by-cond Told (not (eqb k (c .cost))) _ _ (λ l. omega arith) (λ l. (k, refl)))
   told (d ∷ ds) v i k = go (stepOf f m v d) (λ w s. told ds w (suc i) (k + s))
     where
       go : (x : Step) → ((w s : ℕ) → Told (tried f m c w (suc i) (k + s) ds)) → Told (onStep x i (λ w s. tried f m c w (suc i) (k + s) ds))
       go (To w s) ih = ih w s
       go (Barred r) ih = fault-positive r
 
-  pub route-refused-lines : (n p : ℕ) → routeVerdict f m c ≡ RouteVerdict.Refused n p → screen (claimLines f m c) ≡ Screen.Refused n p
+  pub route-refused-lines : (n p : ℕ) → routeVerdict f m c ≡ refused n p → screen (claimLines f m c) ≡ Screen.Refused n p
   unfolding routeVerdict
   route-refused-lines n p = go (screen (claimLines f m c)) (tried f m c (c .start) 0 0 (c .route)) (told (c .route) (c .start) 0 0)
     where
-      go : (x : Screen) (v : RouteVerdict) → Told v → screened x v ≡ RouteVerdict.Refused n p → x ≡ Screen.Refused n p
+      go : (x : Screen) (v : Numbers) → Told v → afterScreen x v ≡ refused n p → x ≡ Screen.Refused n p
       go Passed v t e = absurd (subst Told e t)
       go (Screen.Refused a b) v t e = cc
 
-  pub zero-holds : numberOf (routeVerdict f m c) ≡ 0 → (k : ℕ) × (routeVerdict f m c ≡ Holds k)
+  pub zero-holds : numberOf (routeVerdict f m c) ≡ 0 → (k : ℕ) × (routeVerdict f m c ≡ holds k)
   unfolding routeVerdict
   zero-holds =
       go (screen (claimLines f m c)) (screen-numbered (claimLines f m c) tt) (tried f m c (c .start) 0 0 (c .route)) (told (c .route) (c .start) 0 0)
     where
-      go : (x : Screen) → Numbered x → (v : RouteVerdict) → Told v → numberOf (screened x v) ≡ 0 → (k : ℕ) × (screened x v ≡ Holds k)
-      go Passed h (RouteVerdict.Refused n p) t e = absurd t
-      go Passed h (Fault n p) t e = absurd (omega arith)
-      go Passed h (Holds k) t e = (k, refl)
+      go : (x : Screen) → Numbered x → (v : Numbers) → Told v → numberOf (afterScreen x v) ≡ 0 → (k : ℕ) × (afterScreen x v ≡ holds k)
+      go Passed h (refused n p) t e = absurd t
+      go Passed h (fault n p) t e = absurd (omega arith)
+      go Passed h (gives vs) t e = (t .0, ap gives (t .1))
       go (Screen.Refused n p) h v t e = absurd (omega arith)

@@ -10,13 +10,12 @@ use Rattle.paths.specs.Below.{lowest}
 use Rattle.paths.specs.Graph.{MARK}
 use Rattle.paths.specs.Table.{due}
 use Rattle.floor.specs.declared.Floor.{Floor}
-use Rattle.floor.specs.declared.Screen.{Screen}
-use Rattle.floor.specs.declared.Screen.the-variants.{Passed}
 use Rattle.floor.specs.Place.{cells}
 use Rattle.floor.specs.Step.{graph}
 use Rattle.floor.specs.Refusal.{Line, line, screen, floorLines, outsideLine, blockedLine}
+use Rattle.floor.specs.Numbers.{Numbers, refused, gives, afterScreen}
 use Rattle.claims.specs.declared.TableVerdict.{TableVerdict}
-use Rattle.claims.specs.declared.TableVerdict.the-variants.{Right, Breaks}
+use Rattle.claims.specs.declared.TableVerdict.the-variants.{Refused, Right, Breaks}
 
 -- 9: the costs are shorter than width × height
 abbrev pub costsLine : Floor → List ℕ → Line
@@ -44,9 +43,21 @@ pub record IsLowest (f : Floor) (m : List ℕ) (s : ℕ) (t : List ℕ) (b : ℕ
 unfoldable pub breaking : Floor → List ℕ → ℕ → List ℕ → ℕ
 breaking f m s t = lowest (breaks f m s t) (cells f)
 
-abbrev pub judged : Floor → ℕ → Screen → TableVerdict
-judged f b Passed = cond (ltb b (cells f)) (Breaks b) Right
-judged f b (Screen.Refused n p) = TableVerdict.Refused n p
+-- a table that is right gives nothing, and one that is not the lowest cell that breaks the rule
+abbrev pub right : Numbers
+right = gives []
 
-unfoldable pub tableVerdict : Floor → List ℕ → ℕ → List ℕ → TableVerdict
-tableVerdict f m s t = judged f (breaking f m s t) (screen (tableLines f m s t))
+abbrev pub breaksAt : ℕ → Numbers
+breaksAt b = gives (b ∷ [])
+
+-- 01's numbers of each case
+abbrev pub numbersOf : TableVerdict → Numbers
+numbersOf (Refused n p) = refused n p
+numbersOf Right = right
+numbersOf (Breaks b) = breaksAt b
+
+abbrev pub judged : Floor → ℕ → Numbers
+judged f b = cond (ltb b (cells f)) (breaksAt b) right
+
+unfoldable pub tableVerdict : Floor → List ℕ → ℕ → List ℕ → Numbers
+tableVerdict f m s t = afterScreen (screen (tableLines f m s t)) (judged f (breaking f m s t))

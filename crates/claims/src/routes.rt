@@ -5,7 +5,7 @@ ghost use Rattle.paths.specs.Graph.{MARK};
 ghost use Rattle.floor.specs.Place.{floorOf};
 ghost use Rattle.floor.specs.Refusal.{screen};
 ghost use Rattle.floor.specs.declared.Screen.{Screen};
-ghost use Rattle.claims.specs.Route.{claim, claimLines, faultOf, tried, routeVerdict, valueOf, packed};
+ghost use Rattle.claims.specs.Route.{claim, claimLines, faultOf, tried, routeVerdict, numbersOf, valueOf, packed};
 use crate::RouteVerdict;
 use floor::Floor;
 use floor::Reason;
@@ -45,7 +45,7 @@ fn fault_of(reason: Reason) -> u32
 // Tries the steps in order. What has been spent never wraps: a route has fewer steps than there are cells.
 fn try_steps(f: Floor, map: &[u8], start: u32, goal: u32, cost: u32, route: &[u8]) -> RouteVerdict
     requires { ⌜ screen (claimLines f (now map) (claim start goal cost (now route))) ≡ Screen.Passed ⌝ }
-    ensures { λ r. ⌜ r ≡ tried f (now (map .entry)) (claim start goal cost (now (route .entry))) start 0 0 (now (route .entry)) ⌝ }
+    ensures { λ r. ⌜ numbersOf r ≡ tried f (now (map .entry)) (claim start goal cost (now (route .entry))) start 0 0 (now (route .entry)) ⌝ }
 {
     let mut cell = start as usize;
     let mut spent: u32 = 0;
@@ -81,7 +81,7 @@ pub fn check_route(
     cost: u32,
     route: &[u8],
 ) -> RouteVerdict
-    ensures { λ r. ⌜ r ≡ routeVerdict f (now (map .entry)) (claim start goal cost (now (route .entry))) ⌝ }
+    ensures { λ r. ⌜ numbersOf r ≡ routeVerdict f (now (map .entry)) (claim start goal cost (now (route .entry))) ⌝ }
 {
     let screen = screen_claim(f, map, start, goal, cost, route);
     match screen {
@@ -92,8 +92,8 @@ pub fn check_route(
 
 // 01: high half the refusal or fault number (0 if the claim holds), low half the place, or the cost if it holds.
 fn pack(verdict: RouteVerdict) -> u64
-    requires { ⌜ valueOf verdict ≤ MARK ⌝ }
-    ensures { λ r. ⌜ r ≡ packed verdict ⌝ }
+    requires { ⌜ valueOf (numbersOf verdict) ≤ MARK ⌝ }
+    ensures { λ r. ⌜ r ≡ packed (numbersOf verdict) ⌝ }
 {
     match verdict {
         RouteVerdict::Refused(number, place) => (number as u64) * 4294967296 + (place as u64),

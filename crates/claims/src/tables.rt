@@ -4,7 +4,7 @@ ghost use Prim.Native.Nat.{_≤_, _<_};
 ghost use lib.ListN.{length};
 ghost use Rattle.floor.specs.Place.{cells};
 ghost use Rattle.floor.specs.Refusal.{HasPassed, screen};
-ghost use Rattle.claims.specs.Table.{tableLines, owed, breaking, tableVerdict};
+ghost use Rattle.claims.specs.Table.{tableLines, owed, breaking, numbersOf, tableVerdict};
 use crate::TableVerdict;
 use floor::Floor;
 use floor::MARK;
@@ -55,7 +55,7 @@ fn first_breaking(f: Floor, map: &[u8], start: u32, costs: &[u32]) -> usize
 // Refused; or right, exactly for the right table; or the lowest cell that breaks the rule. A table settles a claimed "none".
 // Entries past width × height are not looked at. Each cell takes at most one step test a direction.
 pub fn check_table(f: Floor, map: &[u8], start: u32, costs: &[u32]) -> TableVerdict
-    ensures { λ r. ⌜ r ≡ tableVerdict f (now (map .entry)) start (now (costs .entry)) ⌝ }
+    ensures { λ r. ⌜ numbersOf r ≡ tableVerdict f (now (map .entry)) start (now (costs .entry)) ⌝ }
 {
     let screen = screen_table(f, map, start, costs);
     match screen {

@@ -29,18 +29,10 @@ use Rattle.floor.proofs.Passing.{facts, few-cells}
 use Rattle.floor.proofs.Laws.{lawful, least-cost-bound}
 use Rattle.floor.proofs.Questions.{question-passed, start-inside, goal-inside}
 use Rattle.search.specs.declared.Answer.{Answer}
-use Rattle.search.specs.declared.AnswerNumbers.{AnswerNumbers}
 use Rattle.search.specs.Search.{Question, Rooms, searchLines, answered, Searched, refused, passed, numbersOf}
 use Rattle.search.proofs.Lending.{search-question}
-use Rattle.desk.specs.Record.{numberAt, questionIn}
+use Rattle.desk.specs.Record.{numberAt, questionIn, InRecord}
 use Rattle.desk.specs.Desk.{Asked, no-zeros, searched}
-
-pub record InRecord (n : AnswerNumbers) : Type 0 where
-  pub kind-fits : n .kind < 256
-  pub refusal-fits : n .refusal < 256
-  pub settled-fits : n .settled ≤ MARK
-  pub number-fits : n .number ≤ MARK
-  pub length-fits : n .length ≤ MARK
 
 -- lines with numbers below k refuse with such a number
 abbrev numbersBelow : ℕ → List Line → Bool

@@ -1,5 +1,5 @@
 -- The promises leave nothing open, and 01's example holds of the definitions.
-use mathlib.Core.Path.{_≡_, refl, sym, _∙_, subst}
+use mathlib.Core.Path.{_≡_, refl, sym, _∙_, ap, subst}
 use mathlib.Core.Bool.{true}
 use mathlib.Core.List.{List, [], _∷_}
 use Prim.Native.Nat.{ℕ, zero, suc, _+_, _*_, _/_, _%_, _<_}
@@ -9,19 +9,19 @@ use lib.Arith.{mod-mul}
 use lib.ListN.{length, take, drop}
 use Rattle.floor.specs.declared.Floor.{Floor}
 use Rattle.maptext.specs.declared.Read.{Read}
+use Rattle.maptext.proofs.Texts.{readOf, read-back}
 use Rattle.search.specs.declared.Answer.{Answer}
 use Rattle.search.specs.declared.Answer.the-variants.{Found}
 use Rattle.search.specs.declared.AnswerNumbers.{AnswerNumbers}
 use Rattle.search.specs.Search.{Rooms, question}
 use Rattle.search.proofs.Promise.{one-search}
 use Rattle.desk.specs.Use.{IsUsed}
-use Rattle.desk.specs.Record.{recordSize, little, numberAt, questionIn, waysIn, endsInZeros, recordFor, recordOf}
+use Rattle.desk.specs.Record.{recordSize, little, numberAt, questionIn, waysIn, endsInZeros, recordFor, recordOf, InRecord}
 use Rattle.desk.specs.Desk.{Asked, no-zeros, searched, Answered, wholeRecords, IsAnswered}
-use Rattle.desk.proofs.Fitting.{InRecord}
 
 -- a second result and room that meet the promise of `use_map` are equal
 pub one-use : (text room : List ℕ) {r s : Read} {room₁ room₂ : List ℕ} → IsUsed text room r room₁ → IsUsed text room s room₂ → (r ≡ s) × (room₁ ≡ room₂)
-one-use text room x y = (x .answers ∙ sym (y .answers), x .leaves ∙ sym (y .leaves))
+one-use text room {r} {s} x y = (sym (read-back r) ∙ ap readOf (x .answers ∙ sym (y .answers)) ∙ read-back s, x .leaves ∙ sym (y .leaves))
 
 one-asked : (f : Floor) (m q : List ℕ) (r : Rooms) {a b : Answer} {r₁ r₂ : Rooms} → Asked f m q r a r₁ → Asked f m q r b r₂ → (a ≡ b) × (r₁ ≡ r₂)
 one-asked f m q r (no-zeros z e l) (no-zeros z′ e′ l′) = (e ∙ sym e′, l ∙ sym l′)

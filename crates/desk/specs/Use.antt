@@ -6,7 +6,7 @@ use Prim.Native.Nat.{ℕ}
 use lib.Dec.{ltb}
 use lib.ListN.{length}
 use Rattle.maptext.specs.declared.Read.{Read}
-use Rattle.maptext.specs.Reading.{Reading, refused, read, readingOf, readFor, cellsLeft}
+use Rattle.maptext.specs.Reading.{Reading, refused, read, readingOf, numbersOf, readFor, cellsLeft}
 
 abbrev pub greatestText : ℕ
 greatestText = 4195
@@ -25,5 +25,5 @@ usedOf text room = cond (ltb greatestText (length text)) (refused 14 0) (withinS
 
 -- the promise, for a room of any length and content: the answer, and what the room holds afterwards
 pub record IsUsed (text room : List ℕ) (r : Read) (room′ : List ℕ) : Type 0 where
-  pub answers : r ≡ readFor (usedOf text (length room))
+  pub answers : numbersOf r ≡ readFor (usedOf text (length room))
   pub leaves : room′ ≡ cellsLeft (usedOf text (length room)) room

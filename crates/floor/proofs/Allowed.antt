@@ -16,15 +16,8 @@ use Rattle.floor.specs.declared.Step.the-variants.{To, Barred}
 use Rattle.floor.specs.Direction.{isDiagonal}
 use Rattle.floor.specs.Place.{cells, placeOf, cellAt, moved, corner, onMap, isOpen}
 use Rattle.floor.specs.Step.{isDirection, target, stepCost, cutsCorner, entering, stepOf, isTo, allowed}
+use Rattle.floor.specs.Allowed.{Allowed}
 use Rattle.floor.proofs.Places.{cell-of-place, cell-lt}
-
--- Both cells are on the map and open, the direction exists, and a diagonal step has both cells beside it open
-pub record Allowed (f : Floor) (m : List ℕ) (v d : ℕ) : Type 0 where
-  pub direction : T (isDirection f d)
-  pub here : T (isOpen f m (placeOf f v))
-  pub there : T (isOpen f m (moved (placeOf f v) d))
-  pub beside : T (isDiagonal d)
-      → T (isOpen f m (corner (moved (placeOf f v) d) (placeOf f v))) × T (isOpen f m (corner (placeOf f v) (moved (placeOf f v) d)))
 
 -- The step leads to w and costs c
 pub record Leads (f : Floor) (m : List ℕ) (v d w c : ℕ) : Type 0 where

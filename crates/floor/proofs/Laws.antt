@@ -16,31 +16,32 @@ use Rattle.paths.proofs.Below.{every-at}
 use Rattle.paths.proofs.Meaning.{least-cost-most}
 use Rattle.floor.specs.declared.Floor.{Floor}
 use Rattle.floor.specs.declared.Place.{Place}
-use Rattle.floor.specs.Direction.{rowOf, opposite}
+use Rattle.floor.specs.Direction.{rowOf, eastOf, southOf, opposite}
 use Rattle.floor.specs.Place.{cells, at, placeOf, cellAt, moved, corner, isOpen}
 use Rattle.floor.specs.Step.{isDirection, target, stepWeight, stepCost, leastStep, greatestStep, greatestCost, allowed, graph}
+use Rattle.floor.specs.Allowed.{Allowed}
 use Rattle.floor.specs.Refusal.{HasPassed}
 use Rattle.floor.proofs.Passing.{MapFacts, facts, few-cells}
 use Rattle.floor.proofs.Rows.{direction-lt, bounds}
 use Rattle.floor.proofs.Places.{OnMap, on-map, cell-of-place, cell-lt}
-use Rattle.floor.proofs.Allowed.{Allowed, allowed-is, allowed-words, open-on-map, open-weight, open-inside}
+use Rattle.floor.proofs.Allowed.{allowed-is, allowed-words, open-on-map, open-weight, open-inside}
 
 -- what the table says of direction d and of the opposite one
 record Turns (d : ℕ) : Type 0 where
-  east : rowOf d .east + rowOf (opposite d) .east ≡ 2
-  south : rowOf d .south + rowOf (opposite d) .south ≡ 2
+  east : eastOf d + eastOf (opposite d) ≡ 2
+  south : southOf d + southOf (opposite d) ≡ 2
   below : opposite d < 8
   kind : opposite d % 2 ≡ d % 2
-  moves : T (not (eqb (rowOf d .east) 1 && eqb (rowOf d .south) 1))
+  moves : T (not (eqb (eastOf d) 1 && eqb (southOf d) 1))
   least : leastStep ≤ rowOf d .unit
 
 turns : (d : ℕ) → d < 8 → Turns d
 turns d h = record {
-  east = eqb→eq (rowOf d .east + rowOf (opposite d) .east) 2 (every-at (λ e. eqb (rowOf e .east + rowOf (opposite e) .east) 2) 8 tt d h);
-  south = eqb→eq (rowOf d .south + rowOf (opposite d) .south) 2 (every-at (λ e. eqb (rowOf e .south + rowOf (opposite e) .south) 2) 8 tt d h);
+  east = eqb→eq (eastOf d + eastOf (opposite d)) 2 (every-at (λ e. eqb (eastOf e + eastOf (opposite e)) 2) 8 tt d h);
+  south = eqb→eq (southOf d + southOf (opposite d)) 2 (every-at (λ e. eqb (southOf e + southOf (opposite e)) 2) 8 tt d h);
   below = ltb→lt (opposite d) 8 (every-at (λ e. ltb (opposite e) 8) 8 tt d h);
   kind = eqb→eq (opposite d % 2) (d % 2) (every-at (λ e. eqb (opposite e % 2) (e % 2)) 8 tt d h);
-  moves = every-at (λ e. not (eqb (rowOf e .east) 1 && eqb (rowOf e .south) 1)) 8 tt d h;
+  moves = every-at (λ e. not (eqb (eastOf e) 1 && eqb (southOf e) 1)) 8 tt d h;
   least = leb→le leastStep (rowOf d .unit) (every-at (λ e. leb leastStep (rowOf e .unit)) 8 tt d h);
 }
 
@@ -90,9 +91,9 @@ module _ (f : Floor) (m : List ℕ) (v d : ℕ) (a : Allowed f m v d) where
   target-other : target f v d ≢ v
   target-other e =
       let p = sym place-of-target ∙ ap (placeOf f) e in
-      let x : v % f .width + 1 + rowOf d .east - 1 ≡ v % f .width + 1 = ap (λ (q : Place). q .column) p in
-      let y : v / f .width + 1 + rowOf d .south - 1 ≡ v / f .width + 1 = ap (λ (q : Place). q .row) p in
-      T-not (eqb (rowOf d .east) 1 && eqb (rowOf d .south) 1) (turns d below .moves) (and-T (eqb (rowOf d .east) 1) (eqb (rowOf d .south) 1) (eq-T (rowOf d .east) 1 (omega arith)) (eq-T (rowOf d .south) 1 (omega arith)))
+      let x : v % f .width + 1 + eastOf d - 1 ≡ v % f .width + 1 = ap (λ (q : Place). q .column) p in
+      let y : v / f .width + 1 + southOf d - 1 ≡ v / f .width + 1 = ap (λ (q : Place). q .row) p in
+      T-not (eqb (eastOf d) 1 && eqb (southOf d) 1) (turns d below .moves) (and-T (eqb (eastOf d) 1) (eqb (southOf d) 1) (eq-T (eastOf d) 1 (omega arith)) (eq-T (southOf d) 1 (omega arith)))
 
   back-direction : T (isDirection f (opposite d))
   unfolding isDirection

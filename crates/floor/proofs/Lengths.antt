@@ -15,16 +15,10 @@ use Rattle.paths.proofs.Bools.{T-and}
 use Rattle.floor.specs.declared.Floor.{Floor}
 use Rattle.floor.specs.Direction.{rowOf, isDiagonal}
 use Rattle.floor.specs.Length.{Surd, surd, square, atMost, times, squared, stepLength, lengthOf}
+use Rattle.floor.specs.FourLines.{FourLines}
 use Rattle.floor.specs.Step.{stepWeight, stepCost, target, allowed, graph}
 use Rattle.floor.proofs.Allowed.{allowed-is}
 use Rattle.floor.proofs.Rows.{direction-lt}
-
--- atMost is 01's "x + y√2 is at least 0", line by line
-pub record FourLines (p q : Surd) : Type 0 where
-  pub both : p .whole ≤ q .whole → p .root ≤ q .root → T (atMost p q)
-  pub neither : q .whole < p .whole → q .root ≤ p .root → T (atMost p q) → ⊥
-  pub less-root : p .whole ≤ q .whole → q .root < p .root → T (atMost p q) ↔ (2 * square (p .root - q .root) ≤ square (q .whole - p .whole))
-  pub less-whole : q .whole < p .whole → p .root < q .root → T (atMost p q) ↔ (square (p .whole - q .whole) ≤ 2 * square (q .root - p .root))
 
 test-is : (b : Bool) (x y : ℕ) → b ≡ leb x y → T b ↔ (x ≤ y)
 test-is b x y e = rw e (leb→le x y, le→leb x y)

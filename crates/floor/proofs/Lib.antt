@@ -1,4 +1,5 @@
 pub mod Screens
+pub mod Lines
 pub mod Passing
 pub mod Rows
 pub mod Places

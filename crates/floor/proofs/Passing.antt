@@ -22,7 +22,7 @@ pub record Side (n : ℕ) : Type 0 where
   pub positive : 0 < n
   pub top : n ≤ greatestSide
 
-side : (n : ℕ) → T (isSide n) → Side n
+pub side : (n : ℕ) → T (isSide n) → Side n
 unfolding isSide
 side n t =
     let a = T-and (ltb 0 n) (leb n greatestSide) t in

@@ -1,40 +1,19 @@
--- The table of directions: the rows that the code has, their greatest entries, and an offset's bits.
-use mathlib.Core.Path.{_≡_, refl}
+-- The table of directions, by a test of every row: its greatest entries, what its offsets do to a column or a row, and their bits.
+use mathlib.Core.Path.{_≡_, refl, ap}
 use mathlib.Core.Logic.{_⊎_, inl, inr}
-use mathlib.Core.Bool.{_||_}
-use mathlib.Core.List.{map}
-use Prim.Native.Nat.{ℕ, zero, suc, _+_, _%_, _≤_, _<_}
+use mathlib.Core.Bool.{Bool, true, false, _||_}
+use Prim.Native.Nat.{ℕ, zero, suc, _+_, _-_, _%_, _≤_, _<_}
 use native.Mathlib.Omega.{arith}
+use borrow.Author.Tests.{le-ltb}
 use lib.Dec.{T, eqb, leb, ltb, leb→le, ltb→lt}
-use lib.IntN.{ℤ, pos, negsuc}
-use lib.ListN.{getD, List·getD-map}
+use lib.IntN.{ℤ, pos, negsuc, _+ℤ_}
 use mir.Syntax.{w32}
 use mir.Val.{ofZ, SFits}
-use Rattle.floor.specs.declared.Direction.{Direction}
 use Rattle.floor.specs.declared.Floor.{Floor}
-use Rattle.floor.specs.Direction.{Row, table, rowOf, plusOne, IsRow}
+use Rattle.floor.specs.Direction.{rowOf, plusOne, eastOf, southOf}
 use Rattle.floor.specs.Step.{isDirection}
 use Rattle.paths.proofs.Bools.{T-and}
 use Rattle.paths.proofs.Below.{every-at}
-
--- the offset whose `plusOne` is n
-abbrev offset : ℕ → ℤ
-offset zero = negsuc 0
-offset (suc n) = pos n
-
-plus-one-offset : (n : ℕ) → plusOne (offset n) ≡ n
-plus-one-offset zero = refl
-plus-one-offset (suc n) = refl
-
--- a row as the code has it
-abbrev coded : Row → Direction
-coded r = record { dx = offset (r .east); dy = offset (r .south); unit = r .unit }
-
--- the code's table is this list
-pub coded-is-row : (d : ℕ) → IsRow d (getD (map coded table) d (coded (rowOf 8)))
-coded-is-row d =
-    rw (List·getD-map coded table d (rowOf 8))
-    (record { east = plus-one-offset (rowOf d .east); south = plus-one-offset (rowOf d .south); unit = refl })
 
 -- a direction of a floor is a row of the table
 pub direction-lt : (f : Floor) (d : ℕ) → T (isDirection f d) → d < 8
@@ -42,16 +21,34 @@ unfolding isDirection
 direction-lt f d t = ltb→lt d 8 (T-and (ltb d 8) (eqb (f .ways) 8 || eqb (d % 2) 0) t .0)
 
 pub record Bounds (d : ℕ) : Type 0 where
-  pub east : rowOf d .east ≤ 2
-  pub south : rowOf d .south ≤ 2
+  pub east : eastOf d ≤ 2
+  pub south : southOf d ≤ 2
   pub unit : rowOf d .unit ≤ 99
 
 pub bounds : (d : ℕ) → d < 8 → Bounds d
 bounds d h = record {
-  east = leb→le (rowOf d .east) 2 (every-at (λ d. leb (rowOf d .east) 2) 8 tt d h);
-  south = leb→le (rowOf d .south) 2 (every-at (λ d. leb (rowOf d .south) 2) 8 tt d h);
+  east = leb→le (eastOf d) 2 (every-at (λ d. leb (eastOf d) 2) 8 tt d h);
+  south = leb→le (southOf d) 2 (every-at (λ d. leb (southOf d) 2) 8 tt d h);
   unit = leb→le (rowOf d .unit) 99 (every-at (λ d. leb (rowOf d .unit) 99) 8 tt d h);
 }
+
+-- an offset is at least -1, and moves a column or a row by itself
+abbrev isOffset : ℤ → Bool
+isOffset (pos n) = true
+isOffset (negsuc zero) = true
+isOffset (negsuc (suc n)) = false
+
+moved-by : (n : ℕ) (z : ℤ) → T (isOffset z) → 0 < n → pos (n + plusOne z - 1) ≡ pos n +ℤ z
+moved-by n (pos k) t h = ap pos (omega arith)
+moved-by n (negsuc zero) t h = rw (le-ltb n 1 h) (ap pos (omega arith))
+moved-by n (negsuc (suc k)) t h = absurd t
+
+module _ (d : ℕ) (h : d < 8) (n : ℕ) (k : 0 < n) where
+  pub moved-east : pos (n + eastOf d - 1) ≡ pos n +ℤ rowOf d .dx
+  moved-east = moved-by n (rowOf d .dx) (every-at (λ d. isOffset (rowOf d .dx)) 8 tt d h) k
+
+  pub moved-south : pos (n + southOf d - 1) ≡ pos n +ℤ rowOf d .dy
+  moved-south = moved-by n (rowOf d .dy) (every-at (λ d. isOffset (rowOf d .dy)) 8 tt d h) k
 
 -- the bits of an offset that is at most 1: one less than `plusOne`, or those of a number below 0, which are neither 0 nor 1
 pub offset-bits : (z : ℤ) → SFits w32 z → plusOne z ≤ 2 → (plusOne z ≡ ofZ w32 z + 1) ⊎ ((plusOne z ≡ 0) × (2 ≤ ofZ w32 z))

@@ -1,5 +1,9 @@
 pub mod Direction
 pub mod Place
 pub mod Step
+pub mod Allowed
 pub mod Length
+pub mod FourLines
 pub mod Refusal
+pub mod LowestLine
+pub mod Numbers

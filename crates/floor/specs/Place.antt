@@ -7,7 +7,7 @@ use lib.ListN.{getD}
 use Rattle.paths.specs.Graph.{MARK}
 use Rattle.floor.specs.declared.Floor.{Floor}
 use Rattle.floor.specs.declared.Place.{Place}
-use Rattle.floor.specs.Direction.{rowOf}
+use Rattle.floor.specs.Direction.{eastOf, southOf}
 
 abbrev pub greatestSide : ℕ
 greatestSide = 256
@@ -43,9 +43,9 @@ pub record IsNear (p : Place) : Type 0 where
   pub row : 0 < p .row
   pub row-small : p .row ≤ MARK
 
--- one step in direction d from p
+-- one step in direction d from p: dx columns east and dy rows south (proofs/Rows.antt, moved-east and moved-south)
 abbrev pub moved : Place → ℕ → Place
-moved p d = at (p .column + rowOf d .east - 1) (p .row + rowOf d .south - 1)
+moved p d = at (p .column + eastOf d - 1) (p .row + southOf d - 1)
 
 -- the place with p's column and q's row: beside a diagonal step between them
 abbrev pub corner : Place → Place → Place

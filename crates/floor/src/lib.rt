@@ -106,7 +106,7 @@ pub enum Into {
     Nothing,
 }
 
-// Whether an input passed the refusals that were tried, or the refusal's number and place.
+// Whether an input passed the refusals that were tried, or the refusal's number and place. `numbersOf` in specs/Numbers.antt.
 pub enum Screen {
     Passed,
     Refused(u32, usize),

@@ -4,7 +4,7 @@ ghost use Prim.Native.Nat.{_+_, _-_, _<_, _≤_};
 ghost use lib.Dec.{T};
 ghost use lib.ListN.{length};
 ghost use Rattle.paths.specs.Graph.{MARK};
-ghost use Rattle.floor.specs.Direction.{IsRow, plusOne};
+ghost use Rattle.floor.specs.Direction.{rowOf, plusOne};
 ghost use Rattle.floor.specs.Place.{IsNear, cells, placeOf, moved, onMap, cellAt, isOpen};
 ghost use Rattle.floor.specs.Step.{isDirection, stepCost, cutsCorner, entering, stepOf, intoOf};
 ghost use Rattle.floor.specs.Refusal.{HasPassed};
@@ -31,7 +31,7 @@ fn is_direction(f: Floor, direction: usize) -> bool
 
 fn direction_at(direction: usize) -> Direction
     requires { ⌜ direction < 8 ⌝ }
-    ensures { λ r. ⌜ IsRow direction r ⌝ }
+    ensures { λ r. ⌜ r ≡ rowOf direction ⌝ }
 {
     DIRECTIONS[direction]
 }

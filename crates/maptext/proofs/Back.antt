@@ -30,29 +30,45 @@ pub header-lines : (w h : ℕ) (rest : List ℕ) → header w h ++ rest ≡ line
 unfolding header
 header-lines w h rest = simp append-assoc
 
+-- the lines that a text begins with give its sides, whatever follows them
+module _ (h : ℕ) (high : 0 < h) (high-top : h ≤ greatestSide) (rest : List ℕ) where
+  pub height-line : heightIn (typeLine ++ (sideLine heightWord h ++ rest)) ≡ h
+  height-line = side-in-is heightWord _ h high high-top (begins-append (sideLine heightWord h) rest)
+
+  pub after-height : drop (widthAt (typeLine ++ (sideLine heightWord h ++ rest))) (typeLine ++ (sideLine heightWord h ++ rest)) ≡ rest
+  after-height =
+      rw (height-line, ← drop-drop (length (sideLine heightWord h)) 12 (typeLine ++ (sideLine heightWord h ++ rest)))
+      (drop-append-seam (sideLine heightWord h) rest)
+
+module _ (w h : ℕ) (wide : 0 < w) (wide-top : w ≤ greatestSide) (high : 0 < h) (high-top : h ≤ greatestSide) (rest : List ℕ) where
+  abbrev text : List ℕ
+  text = typeLine ++ (sideLine heightWord h ++ (sideLine widthWord w ++ rest))
+
+  pub width-line : widthIn text ≡ w
+  width-line =
+      rw (after-height h high high-top (sideLine widthWord w ++ rest))
+      (side-in-is widthWord _ w wide wide-top (begins-append (sideLine widthWord w) rest))
+
+  pub after-width : drop (mapAt text) text ≡ rest
+  after-width =
+      rw (width-line, ← drop-drop (length (sideLine widthWord w)) (widthAt text) text, after-height h high high-top (sideLine widthWord w ++ rest))
+      (drop-append-seam (sideLine widthWord w) rest)
+
 module _ (w h : ℕ) (wide : 0 < w) (wide-top : w ≤ greatestSide) (high : 0 < h) (high-top : h ≤ greatestSide) (rest : List ℕ) where
   pub height-back : heightIn (lines w h rest) ≡ h
-  height-back =
-      side-in-is heightWord _ h high high-top (begins-append (sideLine heightWord h) (sideLine widthWord w ++ (mapLine ++ rest)))
-
-  after-height : drop (widthAt (lines w h rest)) (lines w h rest) ≡ sideLine widthWord w ++ (mapLine ++ rest)
-  after-height =
-      rw (height-back, ← drop-drop (length (sideLine heightWord h)) 12 (lines w h rest))
-      (drop-append-seam (sideLine heightWord h) (sideLine widthWord w ++ (mapLine ++ rest)))
+  height-back = height-line h high high-top (sideLine widthWord w ++ (mapLine ++ rest))
 
   pub width-back : widthIn (lines w h rest) ≡ w
-  width-back = rw after-height (side-in-is widthWord _ w wide wide-top (begins-append (sideLine widthWord w) (mapLine ++ rest)))
+  width-back = width-line w h wide wide-top high high-top (mapLine ++ rest)
 
-  after-width : drop (mapAt (lines w h rest)) (lines w h rest) ≡ mapLine ++ rest
-  after-width =
-      rw (width-back, ← drop-drop (length (sideLine widthWord w)) (widthAt (lines w h rest)) (lines w h rest), after-height)
-      (drop-append-seam (sideLine widthWord w) (mapLine ++ rest))
+  map-there : drop (mapAt (lines w h rest)) (lines w h rest) ≡ mapLine ++ rest
+  map-there = after-width w h wide wide-top high high-top (mapLine ++ rest)
 
   map-back : begins mapLine (drop (mapAt (lines w h rest)) (lines w h rest)) ≡ true
-  map-back = rw after-width
+  map-back = rw map-there
 
   after-map : drop (rowsAt (lines w h rest)) (lines w h rest) ≡ rest
-  after-map = rw (← drop-drop 4 (mapAt (lines w h rest)) (lines w h rest), after-width)
+  after-map = rw (← drop-drop 4 (mapAt (lines w h rest)) (lines w h rest), map-there)
 
 -- the character of every weight is a cell, and its byte is the weight
 cell-back : (c : ℕ) → c ≤ greatestWeight → T (isCell (cellOf (charOf c)) && eqb (byteFor (cellOf (charOf c))) c)

@@ -11,9 +11,9 @@ use Rattle.paths.proofs.Bools.{true-T}
 use Rattle.floor.specs.declared.Screen.the-variants.{Passed, Refused}
 use Rattle.floor.specs.Place.{greatestSide}
 use Rattle.floor.specs.Refusal.{screen}
-use Rattle.maptext.specs.declared.Read.{Read}
+use Rattle.floor.specs.Numbers.{Numbers}
 use Rattle.maptext.specs.Text.{typeLine, mapLine, sideLine}
-use Rattle.maptext.specs.Reading.{Rows, whole, fault, begins, sideIn, heightIn, widthAt, widthIn, mapAt, rowsAt, headerLines, readRows, ofRows, readingOf, readFor, rowsIn}
+use Rattle.maptext.specs.Reading.{Rows, whole, fault, begins, sideIn, heightIn, widthAt, widthIn, mapAt, rowsAt, headerLines, readRows, ofRows, readingOf, numbersOf, readFor, rowsIn}
 use Rattle.maptext.specs.Working.{judged, answerFor}
 use Rattle.maptext.proofs.Beginnings.{begins-length}
 use Rattle.maptext.proofs.Sides.{side-there}
@@ -46,39 +46,39 @@ module _ (text : List ℕ) (first : begins typeLine text ≡ true) where
         header-passed room h =
             rw (first, le-ltb greatestSide (heightIn text) second, le-ltb greatestSide (widthIn text) third, fourth, le-ltb room (widthIn text * heightIn text) h)
 
-answer-of : (w h : ℕ) (x : Rows) → answerFor (judged x) w h ≡ readFor (ofRows w h x)
+answer-of : (w h : ℕ) (x : Rows) → numbersOf (answerFor (judged x) w h) ≡ readFor (ofRows w h x)
 answer-of w h (whole m) = refl
 answer-of w h (fault n p) = refl
 
 -- the answer at the first line that is not as it should be, and after them all, for a cell room of that length
 module _ (text : List ℕ) (room : ℕ) where
-  refused : (n p : ℕ) → screen (headerLines text room) ≡ Refused n p → Read.Refused n p ≡ readFor (readingOf text room)
+  refused : (n p : ℕ) → screen (headerLines text room) ≡ Refused n p → Numbers.refused n p ≡ readFor (readingOf text room)
   unfolding readingOf
   refused n p e = rw e
 
-  pub refused-21 : begins typeLine text ≡ false → Read.Refused 21 0 ≡ readFor (readingOf text room)
+  pub refused-21 : begins typeLine text ≡ false → Numbers.refused 21 0 ≡ readFor (readingOf text room)
   refused-21 e = refused 21 0 (rw e)
 
   module _ (first : begins typeLine text ≡ true) where
-    pub refused-22 : greatestSide < heightIn text → Read.Refused 22 (length typeLine) ≡ readFor (readingOf text room)
+    pub refused-22 : greatestSide < heightIn text → Numbers.refused 22 (length typeLine) ≡ readFor (readingOf text room)
     refused-22 h = refused 22 (length typeLine) (rw (first, lt-ltb greatestSide (heightIn text) h))
 
     module _ (second : heightIn text ≤ greatestSide) where
-      pub refused-23 : greatestSide < widthIn text → Read.Refused 23 (widthAt text) ≡ readFor (readingOf text room)
+      pub refused-23 : greatestSide < widthIn text → Numbers.refused 23 (widthAt text) ≡ readFor (readingOf text room)
       refused-23 h = refused 23 (widthAt text) (rw (first, le-ltb greatestSide (heightIn text) second, lt-ltb greatestSide (widthIn text) h))
 
       module _ (third : widthIn text ≤ greatestSide) where
-        pub refused-24 : begins mapLine (drop (mapAt text) text) ≡ false → Read.Refused 24 (mapAt text) ≡ readFor (readingOf text room)
+        pub refused-24 : begins mapLine (drop (mapAt text) text) ≡ false → Numbers.refused 24 (mapAt text) ≡ readFor (readingOf text room)
         refused-24 e = refused 24 (mapAt text) (rw (first, le-ltb greatestSide (heightIn text) second, le-ltb greatestSide (widthIn text) third, e))
 
         module _ (fourth : begins mapLine (drop (mapAt text) text) ≡ true) where
-          pub refused-29 : room < widthIn text * heightIn text → Read.Refused 29 0 ≡ readFor (readingOf text room)
+          pub refused-29 : room < widthIn text * heightIn text → Numbers.refused 29 0 ≡ readFor (readingOf text room)
           refused-29 h =
               refused 29 0
               (rw (first, le-ltb greatestSide (heightIn text) second, le-ltb greatestSide (widthIn text) third, fourth, lt-ltb room (widthIn text * heightIn text) h))
 
           pub rows-judged : widthIn text * heightIn text ≤ room → {w h from : ℕ} → w ≡ widthIn text → h ≡ heightIn text → from ≡ rowsAt text
-              → answerFor (judged (readRows w h from (drop from text))) w h ≡ readFor (readingOf text room)
+              → numbersOf (answerFor (judged (readRows w h from (drop from text))) w h) ≡ readFor (readingOf text room)
           unfolding readingOf
           rows-judged enough width height start =
               rw (header-passed text first second third fourth room enough, width, height, start)

@@ -12,3 +12,6 @@ pub mod Back
 pub mod Found
 pub mod Storing
 pub mod Texts
+pub mod WritingBack
+pub mod Faults
+pub mod Refusals

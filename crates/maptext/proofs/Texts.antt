@@ -5,21 +5,43 @@ use mathlib.Core.List.{List, [], _∷_, _++_}
 use Prim.Native.Nat.{ℕ, _+_, _≤_}
 use native.Mathlib.Nat.{mul-comm}
 use native.Mathlib.Omega.{arith}
-use lib.ListN.{length, take, drop}
+use lib.ListN.{length, getD, take, drop}
 use Rattle.floor.specs.declared.Floor.{Floor}
 use Rattle.floor.specs.declared.Screen.the-variants.{Passed}
 use Rattle.floor.specs.Place.{cells}
 use Rattle.floor.specs.Refusal.{screen, mapLines}
 use Rattle.floor.proofs.Passing.{map-facts, facts-pass}
+use Rattle.floor.specs.Numbers.{Numbers, refused, fault, gives}
 use Rattle.maptext.specs.declared.Read.{Read}
 use Rattle.maptext.specs.declared.Read.the-variants.{Map}
 use Rattle.maptext.specs.declared.Written.{Written}
 use Rattle.maptext.specs.declared.Written.the-variants.{Length}
+use Rattle.maptext.specs.Text as text
+use Rattle.maptext.specs.Reading as reading
 use Rattle.maptext.specs.Text.{header, sideLine, rows, textOf, IsWritten, CouldWrite}
 use Rattle.maptext.specs.Reading.{read, readingOf, IsRead}
 use Rattle.maptext.proofs.Writing.{text-left}
 use Rattle.maptext.proofs.Back.{lines, header-lines, height-back, width-back, lines-back}
 use Rattle.maptext.proofs.Found.{found, found-room, found-facts}
+
+-- an answer is the only one with its numbers
+abbrev pub readOf : Numbers → Read
+readOf (refused n p) = Read.Refused n p
+readOf (fault n p) = Read.Refused n p
+readOf (gives vs) = Map (record { width = getD vs 0 0; height = getD vs 1 0; ways = getD vs 2 0 })
+
+pub read-back : (r : Read) → readOf (reading.numbersOf r) ≡ r
+read-back (Map f) = refl
+read-back (Read.Refused n p) = refl
+
+abbrev pub writtenOf : Numbers → Written
+writtenOf (refused n p) = Written.Refused n p
+writtenOf (fault n p) = Written.Refused n p
+writtenOf (gives vs) = Length (getD vs 0 0)
+
+pub written-is : (r : Written) → writtenOf (text.numbersOf r) ≡ r
+written-is (Length n) = refl
+written-is (Written.Refused n p) = refl
 
 text-lines : (w h : ℕ) (m : List ℕ) → textOf w h m ≡ lines w h (rows w h m)
 unfolding textOf
@@ -41,7 +63,7 @@ reads-back f m room room′ cellRoom cellRoom′ n r w x h =
     let a = text-left f m room room′ n w in
     let y = rw (a .text) at x in
     let e = read-written f m (length cellRoom) (a .passed) h in
-    (rw e at (y .answers), rw e at (y .leaves))
+    (sym (read-back r) ∙ ap readOf (rw e at (y .answers)), rw e at (y .leaves))
 
 -- two maps with the same text are the same map, ways apart
 pub same-text : (f g : Floor) (m n : List ℕ) → screen (mapLines f m) ≡ Passed → screen (mapLines g n) ≡ Passed
@@ -86,12 +108,12 @@ written-back text room w h m e = (
 -- a second result that keeps the reader's promise is equal
 pub one-reading : (text room : List ℕ) {r s : Read} {room₁ room₂ : List ℕ} → IsRead text room r room₁ → IsRead text room s room₂
     → (r ≡ s) × (room₁ ≡ room₂)
-one-reading text room x y = (x .answers ∙ sym (y .answers), x .leaves ∙ sym (y .leaves))
+one-reading text room {r} {s} x y = (sym (read-back r) ∙ ap readOf (x .answers ∙ sym (y .answers)) ∙ read-back s, x .leaves ∙ sym (y .leaves))
 
 -- and so for the writer's
 pub one-writing : (f : Floor) (m room : List ℕ) {r s : Written} {room₁ room₂ : List ℕ} → IsWritten f m room r room₁ → IsWritten f m room s room₂
     → (r ≡ s) × (room₁ ≡ room₂)
-one-writing f m room x y = (x .answers ∙ sym (y .answers), x .leaves ∙ sym (y .leaves))
+one-writing f m room {r} {s} x y = (sym (written-is r) ∙ ap writtenOf (x .answers ∙ sym (y .answers)) ∙ written-is s, x .leaves ∙ sym (y .leaves))
 
 -- 01's example, `.@.` over `...`: `type octile`, `height 2`, `width 3`, `map` and the rows, each with LF
 abbrev example : List ℕ

@@ -14,9 +14,10 @@ use Rattle.floor.specs.declared.Screen.the-variants.{Passed, Refused}
 use Rattle.floor.specs.Refusal.{Line, line, screen, mapLines}
 use Rattle.floor.proofs.Screens.{andThen, screen-append}
 use Rattle.floor.proofs.Passing.{MapFacts}
+use Rattle.floor.specs.Numbers.{gives, afterScreen}
 use Rattle.maptext.specs.declared.Written.{Written}
 use Rattle.maptext.specs.declared.Written.the-variants.{Length}
-use Rattle.maptext.specs.Text.{textOf, writeLines, writtenFor, textLeft, IsWritten}
+use Rattle.maptext.specs.Text.{textOf, writeLines, numbersOf, textLeft, IsWritten}
 use Rattle.maptext.specs.Working.{IsPut}
 use Rattle.maptext.proofs.Rooms.{sets-whole}
 
@@ -40,11 +41,14 @@ module _ (f : Floor) (m room : List ℕ) where
         let e : screen (writeLines f m (length room)) ≡ Refused 30 0 = after-map passed ∙ rw (lt-ltb (length room) (length (textOf (f .width) (f .height) m)) h) in
         record { answers = rw e; leaves = rw e }
 
+    pub room-enough : length (textOf (f .width) (f .height) m) ≤ length room → screen (writeLines f m (length room)) ≡ Passed
+    room-enough h = after-map passed ∙ rw (le-ltb (length room) (length (textOf (f .width) (f .height) m)) h)
+
     pub written-whole : {r : ℕ} {room′ : List ℕ} → length (textOf (f .width) (f .height) m) ≤ length room → IsPut (textOf (f .width) (f .height) m) room 0 r room′
         → IsWritten f m room (Length r) room′
     written-whole {r} {room′} h p =
         let text = textOf (f .width) (f .height) m in
-        let e : screen (writeLines f m (length room)) ≡ Passed = after-map passed ∙ rw (le-ltb (length room) (length text) h) in
+        let e = room-enough h in
         let size : r ≡ length text = omega (arith, p .next) in
         record { answers = rw (e, size); leaves = rw e (p .leaves ∙ sets-whole text room h) }
 
@@ -57,7 +61,7 @@ pub text-left : (f : Floor) (m room room′ : List ℕ) (n : ℕ) → IsWritten 
 text-left f m room room′ n w = go (screen (mapLines f m)) refl (screen (writeLines f m (length room))) refl (w .answers) (w .leaves)
   where
     go : (s : Screen) → screen (mapLines f m) ≡ s → (t : Screen) → screen (writeLines f m (length room)) ≡ t
-        → Length n ≡ writtenFor (textOf (f .width) (f .height) m) t → room′ ≡ textLeft (textOf (f .width) (f .height) m) room t → TextLeft f m room′ n
+        → numbersOf (Length n) ≡ afterScreen t (gives (length (textOf (f .width) (f .height) m) ∷ [])) → room′ ≡ textLeft (textOf (f .width) (f .height) m) room t → TextLeft f m room′ n
     go Passed e Passed d a l =
         let text = textOf (f .width) (f .height) m in
         let size : n ≡ length text = cc in

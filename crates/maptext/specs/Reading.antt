@@ -10,6 +10,7 @@ use Rattle.floor.specs.declared.Screen.{Screen}
 use Rattle.floor.specs.declared.Screen.the-variants.{Passed, Refused}
 use Rattle.floor.specs.Place.{greatestSide}
 use Rattle.floor.specs.Refusal.{Line, line, screen}
+use Rattle.floor.specs.Numbers.{Numbers, gives}
 use Rattle.maptext.specs.declared.Cell.{Cell}
 use Rattle.maptext.specs.declared.Cell.the-variants.{Weight, Blocked, NoCell}
 use Rattle.maptext.specs.declared.Read.{Read}
@@ -108,10 +109,15 @@ afterHeader text (Refused n p) = refused n p
 unfoldable pub readingOf : List ℕ → ℕ → Reading
 readingOf text room = afterHeader text (screen (headerLines text room))
 
--- the reader's answer, and what its room holds afterwards
-abbrev pub readFor : Reading → Read
-readFor (refused n p) = Read.Refused n p
-readFor (read w h m) = Map (record { width = w; height = h; ways = 8 })
+-- 01's numbers of each case: width, height and ways, or the refusal
+abbrev pub numbersOf : Read → Numbers
+numbersOf (Map f) = gives (f .width ∷ f .height ∷ f .ways ∷ [])
+numbersOf (Read.Refused n p) = Numbers.refused n p
+
+-- the reader's answer, in which ways is always 8, and what its room holds afterwards
+abbrev pub readFor : Reading → Numbers
+readFor (refused n p) = Numbers.refused n p
+readFor (read w h m) = gives (w ∷ h ∷ 8 ∷ [])
 
 abbrev pub cellsLeft : Reading → List ℕ → List ℕ
 cellsLeft (refused n p) room = room
@@ -119,5 +125,5 @@ cellsLeft (read w h m) room = m ++ drop (length m) room
 
 -- the reader's promise, for a room of any length and content
 pub record IsRead (text room : List ℕ) (r : Read) (room′ : List ℕ) : Type 0 where
-  pub answers : r ≡ readFor (readingOf text (length room))
+  pub answers : numbersOf r ≡ readFor (readingOf text (length room))
   pub leaves : room′ ≡ cellsLeft (readingOf text (length room)) room

@@ -9,6 +9,7 @@ use Rattle.floor.specs.declared.Floor.{Floor}
 use Rattle.floor.specs.declared.Screen.{Screen}
 use Rattle.floor.specs.declared.Screen.the-variants.{Passed, Refused}
 use Rattle.floor.specs.Refusal.{Line, line, screen, mapLines}
+use Rattle.floor.specs.Numbers.{Numbers, refused, gives, afterScreen}
 use Rattle.maptext.specs.declared.Written.{Written}
 use Rattle.maptext.specs.declared.Written.the-variants.{Length}
 
@@ -58,9 +59,10 @@ textOf w h m = header w h ++ rows w h m
 abbrev pub writeLines : Floor → List ℕ → ℕ → List Line
 writeLines f m room = mapLines f m ++ (line 30 (ltb room (length (textOf (f .width) (f .height) m))) 0 ∷ [])
 
-abbrev pub writtenFor : List ℕ → Screen → Written
-writtenFor text Passed = Length (length text)
-writtenFor text (Refused n p) = Written.Refused n p
+-- 01's numbers of each case: the text's length, or the refusal
+abbrev pub numbersOf : Written → Numbers
+numbersOf (Length n) = gives (n ∷ [])
+numbersOf (Written.Refused n p) = refused n p
 
 abbrev pub textLeft : List ℕ → List ℕ → Screen → List ℕ
 textLeft text room Passed = text ++ drop (length text) room
@@ -68,7 +70,7 @@ textLeft text room (Refused n p) = room
 
 -- the writer's promise, for a room of any length and content
 pub record IsWritten (f : Floor) (m room : List ℕ) (r : Written) (room′ : List ℕ) : Type 0 where
-  pub answers : r ≡ writtenFor (textOf (f .width) (f .height) m) (screen (writeLines f m (length room)))
+  pub answers : numbersOf r ≡ afterScreen (screen (writeLines f m (length room))) (gives (length (textOf (f .width) (f .height) m) ∷ []))
   pub leaves : room′ ≡ textLeft (textOf (f .width) (f .height) m) room (screen (writeLines f m (length room)))
 
 -- the writer could have written the text: it is the text of a floor and a map that pass 1 to 3

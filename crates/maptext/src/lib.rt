@@ -17,13 +17,13 @@ pub enum Cell {
     NoCell,
 }
 
-// The reader's answer: the floor of the map that was read (ways is 8), or the refusal's number and place.
+// The reader's answer: the floor of the map that was read (ways is 8), or the refusal's number and place. `numbersOf` in specs/Reading.antt.
 pub enum Read {
     Map(Floor),
     Refused(u32, usize),
 }
 
-// The writer's answer: the text's length, or the refusal's number and place.
+// The writer's answer: the text's length, or the refusal's number and place. `numbersOf` in specs/Text.antt.
 pub enum Written {
     Length(usize),
     Refused(u32, usize),

@@ -4,7 +4,7 @@ ghost use mathlib.Core.List.{map};
 ghost use Prim.Native.Nat.{suc, _+_, _*_, _^_, _≤_, _<_};
 ghost use lib.ListN.{length, take, drop};
 ghost use lib.Seq.{sets};
-ghost use Rattle.maptext.specs.Reading.{readRow, readRows, readingOf, readFor, IsRead};
+ghost use Rattle.maptext.specs.Reading.{readRow, readRows, readingOf, numbersOf, readFor, IsRead};
 ghost use Rattle.maptext.specs.Working.{judged, answerFor, byteOf, bytesIn};
 use crate::Read;
 use crate::chars::byte_of;
@@ -106,7 +106,7 @@ fn answer(found: Screen, width: usize, height: usize) -> Read
 
 // What the reader answers for a cell room of that length, with nothing stored. 01: "Reader's refusals", in that order.
 pub fn judge_map(text: &[u8], room: usize) -> Read
-    ensures { λ r. ⌜ r ≡ readFor (readingOf (now (text .entry)) room) ⌝ }
+    ensures { λ r. ⌜ numbersOf r ≡ readFor (readingOf (now (text .entry)) room) ⌝ }
 {
     if begins_at(b"type octile\n", text, 0) {
         // 12 is the length of the first line, and 4, below, of the fourth.

@@ -1,29 +1,35 @@
 -- The first condition: every entry's promise begins with its lines, and an answer that is a refusal comes from them.
 use mathlib.Core.Path.{_≡_, refl, sym, ap, _∙_}
 use mathlib.Core.Logic.{_↔_, Iff·trans}
-use mathlib.Core.List.{List}
+use mathlib.Core.List.{List, [], _∷_}
 use Prim.Native.Nat.{ℕ}
 use native.Mathlib.Omega.{arith}
+use lib.Dec.{T}
 use lib.ListN.{length}
 use Rattle.settling.specs.Answer as row
 use Rattle.settling.specs.Answer.{Kind}
 use Rattle.floor.specs.declared.Floor.{Floor}
 use Rattle.floor.specs.declared.Screen.{Screen}
 use Rattle.floor.specs.declared.Screen.the-variants.{Passed, Refused}
-use Rattle.floor.specs.Refusal.{screen, mapLines, floorLines, questionLines}
+use Rattle.floor.specs.Refusal.{Line, screen, mapLines, floorLines, questionLines}
+use Rattle.floor.specs.LowestLine.{IsLowestLine}
+use Rattle.floor.specs.Numbers.{Numbers, refused, fault, gives, afterScreen, numbersOf}
+use Rattle.floor.proofs.Lines.{rising, lowest-line, refused-lines, by-lines}
 use Rattle.maptext.specs.declared.Written.{Written}
-use Rattle.maptext.specs.declared.Written.the-variants.{Length}
-use Rattle.maptext.specs.Text.{textOf, writeLines, writtenFor, textLeft, IsWritten}
+use Rattle.maptext.specs.Text as text
+use Rattle.maptext.specs.Text.{textOf, writeLines, textLeft, IsWritten}
+use Rattle.maptext.proofs.Texts.{writtenOf, written-is}
+use Rattle.claims.specs.Route as route
 use Rattle.claims.specs.Route.{claimLines}
+use Rattle.claims.specs.Table as table
 use Rattle.claims.specs.Table.{tableLines}
-use Rattle.claims.proofs.Claims.{route-refused-exactly, table-refused-exactly}
+use Rattle.claims.proofs.Claims.{routeOf, route-back, tableOf, table-back, route-refused-exactly, table-refused-exactly}
 use Rattle.search.specs.declared.Answer.{Answer}
 use Rattle.search.specs.Search.{Question, Rooms, searchLines, rowOf, answered, Searched, refused, passed}
 use Rattle.search.proofs.Promise.{by-refusal}
 use Rattle.desk.specs.Record.{questionIn, waysIn}
 use Rattle.desk.specs.Desk.{withWays, Asked, no-zeros, searched}
-use Rattle.tender.specs.FirstCondition.{IsLowestLine, Refuses, IsRefusable, zeros-missing, not-searched, FirstCondition}
-use Rattle.tender.proofs.Lines.{lowest-line, refused-lines, by-lines}
+use Rattle.tender.specs.FirstCondition.{Refuses, IsRefusable, zeros-missing, not-searched, FirstCondition}
 use Rattle.tender.proofs.Unread.{reader-refuses, program-refuses}
 
 -- an answer that is a row of 01's table is no refusal
@@ -46,23 +52,37 @@ search-refuses f m q r a r′ x = record {
       λ h. let z : _≡_ {A = ℕ} 0 1 = cc in absurd (omega arith),
     )
 
-abbrev writtenScreen : Written → Screen
-writtenScreen (Length n) = Passed
-writtenScreen (Written.Refused n p) = Refused n p
+-- the numbers of an answer that gives values tell the screen before it
+abbrev screenIn : Numbers → Screen
+screenIn (refused n p) = Refused n p
+screenIn (fault n p) = Passed
+screenIn (gives vs) = Passed
 
-written-back : (text : List ℕ) (s : Screen) → writtenScreen (writtenFor text s) ≡ s
-written-back text Passed = refl
-written-back text (Refused n p) = refl
+screen-back : (vs : List ℕ) (s : Screen) → screenIn (afterScreen s (gives vs)) ≡ s
+screen-back vs Passed = refl
+screen-back vs (Refused n p) = refl
+
+screen-refuses : (ls : List Line) (x : Screen) → x ≡ screen ls → T (rising 0 ls) → (n p : ℕ) → (numbersOf x ≡ refused n p) ↔ IsLowestLine ls n p
+screen-refuses ls x e r = by-lines (λ s. afterScreen s (gives [])) screenIn (screen-back []) ls (ap numbersOf e) r
 
 writer-refuses : (f : Floor) (m room : List ℕ) (w : Written) (room′ : List ℕ) → IsWritten f m room w room′
     → Refuses (IsLowestLine (writeLines f m (length room))) (λ n p. w ≡ Written.Refused n p) (room′ ≡ room)
 writer-refuses f m room w room′ x =
-    let text = textOf (f .width) (f .height) m in
+    let vs : List ℕ = length (textOf (f .width) (f .height) m) ∷ [] in
     record {
-      exactly = by-lines (writtenFor text) writtenScreen (written-back text) (writeLines f m (length room)) (x .answers) tt;
+      exactly = λ n p. Iff·trans
+          (λ e. ap text.numbersOf e, λ e. sym (written-is w) ∙ ap writtenOf e)
+          (by-lines (λ s. afterScreen s (gives vs)) screenIn (screen-back vs) (writeLines f m (length room)) (x .answers) tt n p);
       alters-nothing = λ n p e.
-          x .leaves ∙ ap (textLeft text room) (refused-lines (writtenFor text) writtenScreen (written-back text) (writeLines f m (length room)) (x .answers) n p e);
+          x .leaves
+          ∙ ap (textLeft (textOf (f .width) (f .height) m) room)
+          (refused-lines (λ s. afterScreen s (gives vs)) screenIn (screen-back vs) (writeLines f m (length room)) (x .answers) n p (ap text.numbersOf e));
     }
+
+-- a verdict with the numbers of a refusal is that refusal
+verdict-refused : {A : Type 0} (numbersOf : A → Numbers) (of : Numbers → A) (back : (v : A) → of (numbersOf v) ≡ v) {v : A} {a : Numbers} (n p : ℕ)
+    → numbersOf v ≡ a → (v ≡ of (refused n p)) ↔ (a ≡ numbersOf (of (refused n p)))
+verdict-refused numbersOf of back {v} n p e = (λ k. sym e ∙ ap numbersOf k, λ k. sym (back v) ∙ ap of (e ∙ k) ∙ back (of (refused n p)))
 
 -- a question record: 13, or what the search refuses
 question-refuses : (f : Floor) (m question : List ℕ) (r : Rooms) (a : Answer) (r′ : Rooms) → Asked f m question r a r′
@@ -97,13 +117,15 @@ question-refuses f m question r a r′ (searched z x) =
 pub first-condition : FirstCondition
 first-condition = record {
   search = search-refuses;
-  route-check = λ f m c n p. Iff·trans (route-refused-exactly f m c n p) (lowest-line (claimLines f m c) 0 tt n p);
-  table-check = λ f m s t n p. Iff·trans (table-refused-exactly f m s t n p) (lowest-line (tableLines f m s t) 0 tt n p);
+  route-check = λ f m c v e n p.
+      Iff·trans (verdict-refused route.numbersOf routeOf route-back n p e) (Iff·trans (route-refused-exactly f m c n p) (lowest-line (claimLines f m c) 0 tt n p));
+  table-check = λ f m s t v e n p.
+      Iff·trans (verdict-refused table.numbersOf tableOf table-back n p e) (Iff·trans (table-refused-exactly f m s t n p) (lowest-line (tableLines f m s t) 0 tt n p));
   writer = writer-refuses;
   reader = reader-refuses;
   program-map = program-refuses;
   program-question = question-refuses;
-  map-screen = λ f m n p. lowest-line (mapLines f m) 0 tt n p;
-  floor-screen = λ f m n p. lowest-line (floorLines f m) 0 tt n p;
-  question-screen = λ f m s g n p. lowest-line (questionLines f m s g) 0 tt n p;
+  map-screen = λ f m x e. screen-refuses (mapLines f m) x e tt;
+  floor-screen = λ f m x e. screen-refuses (floorLines f m) x e tt;
+  question-screen = λ f m s g x e. screen-refuses (questionLines f m s g) x e tt;
 }

@@ -1,5 +1,4 @@
 pub mod CasesHold
-pub mod Lines
 pub mod Unread
 pub mod FirstHolds
 pub mod Rowed

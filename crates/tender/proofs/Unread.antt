@@ -1,4 +1,4 @@
--- Texts that are no map: the reader refuses by the header's lines or by the rows, and the program also what is too long, too wide or too high.
+-- Texts that are no map: an answer is a refusal exactly when the reading is, and the program also refuses what is too long, too wide or too high.
 use mathlib.Core.Path.{_≡_, refl, sym, ap, _∙_}
 use mathlib.Core.Logic.{_↔_, Iff·trans, _⊎_, inl, inr, ⊎-elim}
 use mathlib.Core.Bool.{Bool, true, false, cond, _||_}
@@ -10,75 +10,33 @@ use borrow.Author.Tests.{lt-ltb, le-ltb}
 use lib.Dec.{T, ltb, ltb→lt}
 use lib.ListN.{length}
 use Rattle.paths.proofs.Bools.{T-or}
-use Rattle.floor.specs.declared.Screen.{Screen}
-use Rattle.floor.specs.declared.Screen.the-variants.{Passed, Refused}
-use Rattle.floor.specs.Refusal.{screen}
 use Rattle.maptext.specs.declared.Read.{Read}
-use Rattle.maptext.specs.Reading.{
-  rowsIn,
-  Rows,
-  whole,
-  fault,
-  heightIn,
-  widthIn,
-  headerLines,
-  Reading,
-  refused,
-  read,
-  ofRows,
-  afterHeader,
-  readingOf,
-  readFor,
-  cellsLeft,
-  IsRead,
-}
+use Rattle.maptext.specs.Reading.{Reading, refused, read, readingOf, numbersOf, readFor, cellsLeft, IsRead}
+use Rattle.maptext.specs.Faults.{IsFirstFault}
+use Rattle.maptext.proofs.Texts.{readOf, read-back}
+use Rattle.maptext.proofs.Refusals.{refused-exactly}
 use Rattle.desk.specs.Use.{greatestText, greatestUsedSide, withinSides, usedOf, IsUsed}
-use Rattle.tender.specs.FirstCondition.{Refuses, IsFirstFault, IsUnusable, too-long, unread, too-great}
-use Rattle.tender.proofs.Lines.{lowest-line}
+use Rattle.tender.specs.FirstCondition.{Refuses, IsUnusable, too-long, unread, too-great}
 
 -- an answer of the reader is a refusal exactly when the reading is
-read-refused : (x : Reading) (n p : ℕ) → (readFor x ≡ Read.Refused n p) ↔ (x ≡ refused n p)
-read-refused (refused a b) n p = (λ e. cc, λ e. cc)
-read-refused (read w h m) n p = (
-  λ e. let z : _≡_ {A = ℕ} 0 1 = cc in absurd (omega arith),
-  λ e. let z : _≡_ {A = ℕ} 0 1 = cc in absurd (omega arith),
-)
-
--- and a reading is, by the header's lines or by the rows
-reading-refused : (text : List ℕ) (s : Screen) (n p : ℕ)
-    → (afterHeader text s ≡ refused n p) ↔ ((s ≡ Refused n p) ⊎ ((s ≡ Passed) × (rowsIn text ≡ fault n p)))
-reading-refused text s n p = (from s, to)
+read-refused : (x : Reading) (r : Read) (n p : ℕ) → numbersOf r ≡ readFor x → (r ≡ Read.Refused n p) ↔ (x ≡ refused n p)
+read-refused x r n p e = (λ k. from x (sym e ∙ ap numbersOf k), λ k. sym (read-back r) ∙ ap readOf (e ∙ ap readFor k))
   where
-    from-rows : (rows : Rows) → ofRows (widthIn text) (heightIn text) rows ≡ refused n p → rows ≡ fault n p
-    from-rows (whole m) x = let z : _≡_ {A = ℕ} 0 1 = cc in absurd (omega arith)
-    from-rows (fault a b) x = cc
-
-    from : (s : Screen) → afterHeader text s ≡ refused n p → (s ≡ Refused n p) ⊎ ((s ≡ Passed) × (rowsIn text ≡ fault n p))
-    from Passed x = inr (refl, from-rows (rowsIn text) x)
-    from (Refused a b) x = inl cc
-
-    to : (s ≡ Refused n p) ⊎ ((s ≡ Passed) × (rowsIn text ≡ fault n p)) → afterHeader text s ≡ refused n p
-    to (inl x) = rw x refl
-    to (inr x) = rw (x .0, x .1) refl
-
--- 21 to 29, for a cell room of that length
-reading-first : (text : List ℕ) (room n p : ℕ) → (readingOf text room ≡ refused n p) ↔ IsFirstFault text room n p
-unfolding readingOf
-reading-first text room n p =
-    let lowest = lowest-line (headerLines text room) 0 tt n p in
-    Iff·trans (reading-refused text (screen (headerLines text room)) n p) (⊎-elim (λ y. inl (lowest .0 y)) inr, ⊎-elim (λ y. inl (lowest .1 y)) inr)
+    from : (x : Reading) → readFor x ≡ numbersOf (Read.Refused n p) → x ≡ refused n p
+    from (refused a b) e = let number : a ≡ n = cc in let place : b ≡ p = cc in rw (number, place)
+    from (read w h m) e = let z : _≡_ {A = ℕ} 0 1 = cc in absurd (omega arith)
 
 -- an answer from a reading, with the room that it leaves
-from-reading : {due : ℕ → ℕ → Type 0} {room : List ℕ} {r : Read} {room′ : List ℕ} (x : Reading) → r ≡ readFor x → room′ ≡ cellsLeft x room
+from-reading : {due : ℕ → ℕ → Type 0} {room : List ℕ} {r : Read} {room′ : List ℕ} (x : Reading) → numbersOf r ≡ readFor x → room′ ≡ cellsLeft x room
     → ((n p : ℕ) → (x ≡ refused n p) ↔ due n p) → Refuses due (λ n p. r ≡ Read.Refused n p) (room′ ≡ room)
-from-reading {room = room} x answers leaves exactly = record {
-  exactly = λ n p. Iff·trans (λ e. read-refused x n p .0 (sym answers ∙ e), λ e. answers ∙ read-refused x n p .1 e) (exactly n p);
-  alters-nothing = λ n p e. leaves ∙ ap (λ (y : Reading). cellsLeft y room) (read-refused x n p .0 (sym answers ∙ e));
+from-reading {room = room} {r = r} x answers leaves exactly = record {
+  exactly = λ n p. Iff·trans (read-refused x r n p answers) (exactly n p);
+  alters-nothing = λ n p e. leaves ∙ ap (λ (y : Reading). cellsLeft y room) (read-refused x r n p answers .0 e);
 }
 
 pub reader-refuses : (text room : List ℕ) (r : Read) (room′ : List ℕ) → IsRead text room r room′
     → Refuses (IsFirstFault text (length room)) (λ n p. r ≡ Read.Refused n p) (room′ ≡ room)
-reader-refuses text room r room′ x = from-reading (readingOf text (length room)) (x .answers) (x .leaves) (reading-first text (length room))
+reader-refuses text room r room′ x = from-reading (readingOf text (length room)) (x .answers) (x .leaves) (refused-exactly text (length room))
 
 -- a map is refused for a side exactly when one is too great
 sides-refused : (w h : ℕ) (m : List ℕ) (n p : ℕ)
@@ -103,7 +61,7 @@ sides-refused w h m n p = (from (ltb greatestUsedSide w || ltb greatestUsedSide 
 
 module _ (text : List ℕ) (room n p : ℕ) where
   short-refused : length text ≤ greatestText → (x : Reading) → readingOf text room ≡ x → (withinSides x ≡ refused n p) → IsUnusable text room n p
-  short-refused short (refused a b) e given = unread short (reading-first text room n p .0 (e ∙ given))
+  short-refused short (refused a b) e given = unread short (refused-exactly text room n p .0 (e ∙ given))
   short-refused short (read w h m) e given = let s = sides-refused w h m n p .0 given in too-great short w h m e (s .0) (s .1) (s .2)
 
   -- what the program cannot use
@@ -123,7 +81,7 @@ module _ (text : List ℕ) (room n p : ℕ) where
 
       to : IsUnusable text room n p → usedOf text room ≡ refused n p
       to (too-long long e f) = rw (lt-ltb greatestText (length text) long, e, f) refl
-      to (unread short x) = rw (le-ltb greatestText (length text) short, reading-first text room n p .1 x) refl
+      to (unread short x) = rw (le-ltb greatestText (length text) short, refused-exactly text room n p .1 x) refl
       to (too-great short w h m e s f g) = rw (le-ltb greatestText (length text) short, e) (sides-refused w h m n p .1 (s, f, g))
 
 pub program-refuses : (text room : List ℕ) (r : Read) (room′ : List ℕ) → IsUsed text room r room′

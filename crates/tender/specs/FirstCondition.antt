@@ -3,20 +3,24 @@
 use mathlib.Core.Path.{_≡_}
 use mathlib.Core.Logic.{_↔_, _⊎_}
 use mathlib.Core.Bool.{true, false}
-use mathlib.Core.List.{List, [], _∷_}
+use mathlib.Core.List.{List}
 use Prim.Native.Nat.{ℕ, _≤_, _<_}
-use lib.Dec.{T}
 use lib.ListN.{length}
 use Rattle.floor.specs.declared.Floor.{Floor}
-use Rattle.floor.specs.declared.Screen.the-variants.{Passed, Refused}
-use Rattle.floor.specs.Refusal.{Line, line, screen, mapLines, floorLines, questionLines}
+use Rattle.floor.specs.declared.Screen.{Screen}
+use Rattle.floor.specs.Refusal.{screen, mapLines, floorLines, questionLines}
+use Rattle.floor.specs.LowestLine.{IsLowestLine}
+use Rattle.floor.specs.Numbers.{refused, numbersOf}
 use Rattle.maptext.specs.declared.Read.{Read}
 use Rattle.maptext.specs.declared.Written.{Written}
 use Rattle.maptext.specs.Text.{writeLines, IsWritten}
-use Rattle.maptext.specs.Reading.{fault, rowsIn, headerLines, read, readingOf, IsRead}
+use Rattle.maptext.specs.Reading.{read, readingOf, IsRead}
+use Rattle.maptext.specs.Faults.{IsFirstFault}
 use Rattle.claims.specs.declared.RouteVerdict.{RouteVerdict}
 use Rattle.claims.specs.declared.TableVerdict.{TableVerdict}
+use Rattle.claims.specs.Route as route
 use Rattle.claims.specs.Route.{Claim, claimLines, routeVerdict}
+use Rattle.claims.specs.Table as table
 use Rattle.claims.specs.Table.{tableLines, tableVerdict}
 use Rattle.search.specs.declared.Answer.{Answer}
 use Rattle.search.specs.Search.{Question, Rooms, searchLines, Searched}
@@ -24,24 +28,10 @@ use Rattle.desk.specs.Use.{greatestText, greatestUsedSide, IsUsed}
 use Rattle.desk.specs.Record.{questionIn, waysIn, endsInZeros}
 use Rattle.desk.specs.Desk.{withWays, Asked}
 
--- the line is one of the list
-abbrev pub Has : Line → List Line → Type 0
-Has l [] = ⊥
-Has l (k ∷ ks) = (l ≡ k) ⊎ Has l ks
-
--- "The lowest number that applies is given": line n applies, with place p, and no line of a lower number does
-pub record IsLowestLine (ls : List Line) (n p : ℕ) : Type 0 where
-  pub applies : Has (line n true p) ls
-  pub none-lower : (l : Line) → Has l ls → T (l .given) → n ≤ l .number
-
 -- `refused n p`: the answer is refusal n with place p; `due n p`: 01 says so; `same`: every lent room is as it was
 pub record Refuses (due refused : ℕ → ℕ → Type 0) (same : Type 0) : Type 0 where
   pub exactly : (n p : ℕ) → refused n p ↔ due n p
   pub alters-nothing : (n p : ℕ) → refused n p → same
-
--- map text: a line of the header, or, where none applies, the first fault met in the rows
-abbrev pub IsFirstFault : List ℕ → ℕ → ℕ → ℕ → Type 0
-IsFirstFault text room n p = IsLowestLine (headerLines text room) n p ⊎ ((screen (headerLines text room) ≡ Passed) × (rowsIn text ≡ fault n p))
 
 -- the program's map: a text that is too long; then what the reader refuses; then a side that is too great
 pub data IsUnusable (text : List ℕ) (room n p : ℕ) : Type 0 where
@@ -60,9 +50,10 @@ pub data IsRefusable (f : Floor) (m question : List ℕ) (r : Rooms) (n p : ℕ)
 pub record FirstCondition : Type 0 where
   pub search : (f : Floor) (m : List ℕ) (q : Question) (r : Rooms) (a : Answer) (r′ : Rooms) → Searched f m q r a r′
       → Refuses (IsLowestLine (searchLines f m q r)) (λ n p. a ≡ Answer.Refused n p) (r′ ≡ r)
-  pub route-check : (f : Floor) (m : List ℕ) (c : Claim) (n p : ℕ) → (routeVerdict f m c ≡ RouteVerdict.Refused n p) ↔ IsLowestLine (claimLines f m c) n p
-  pub table-check : (f : Floor) (m : List ℕ) (s : ℕ) (t : List ℕ) (n p : ℕ)
-      → (tableVerdict f m s t ≡ TableVerdict.Refused n p) ↔ IsLowestLine (tableLines f m s t) n p
+  pub route-check : (f : Floor) (m : List ℕ) (c : Claim) (v : RouteVerdict) → route.numbersOf v ≡ routeVerdict f m c
+      → (n p : ℕ) → (v ≡ RouteVerdict.Refused n p) ↔ IsLowestLine (claimLines f m c) n p
+  pub table-check : (f : Floor) (m : List ℕ) (s : ℕ) (t : List ℕ) (v : TableVerdict) → table.numbersOf v ≡ tableVerdict f m s t
+      → (n p : ℕ) → (v ≡ TableVerdict.Refused n p) ↔ IsLowestLine (tableLines f m s t) n p
   pub writer : (f : Floor) (m room : List ℕ) (w : Written) (room′ : List ℕ) → IsWritten f m room w room′
       → Refuses (IsLowestLine (writeLines f m (length room))) (λ n p. w ≡ Written.Refused n p) (room′ ≡ room)
   pub reader : (text room : List ℕ) (r : Read) (room′ : List ℕ) → IsRead text room r room′
@@ -72,7 +63,9 @@ pub record FirstCondition : Type 0 where
   pub program-question : (f : Floor) (m question : List ℕ) (r : Rooms) (a : Answer) (r′ : Rooms) → Asked f m question r a r′
       → Refuses (IsRefusable f m question r) (λ n p. a ≡ Answer.Refused n p) (r′ ≡ r)
   -- the screens that the entries share: 1 to 3, 1 to 4, 1 to 8
-  pub map-screen : (f : Floor) (m : List ℕ) (n p : ℕ) → (screen (mapLines f m) ≡ Refused n p) ↔ IsLowestLine (mapLines f m) n p
-  pub floor-screen : (f : Floor) (m : List ℕ) (n p : ℕ) → (screen (floorLines f m) ≡ Refused n p) ↔ IsLowestLine (floorLines f m) n p
-  pub question-screen : (f : Floor) (m : List ℕ) (s g n p : ℕ)
-      → (screen (questionLines f m s g) ≡ Refused n p) ↔ IsLowestLine (questionLines f m s g) n p
+  pub map-screen : (f : Floor) (m : List ℕ) (x : Screen) → x ≡ screen (mapLines f m)
+      → (n p : ℕ) → (numbersOf x ≡ refused n p) ↔ IsLowestLine (mapLines f m) n p
+  pub floor-screen : (f : Floor) (m : List ℕ) (x : Screen) → x ≡ screen (floorLines f m)
+      → (n p : ℕ) → (numbersOf x ≡ refused n p) ↔ IsLowestLine (floorLines f m) n p
+  pub question-screen : (f : Floor) (m : List ℕ) (s g : ℕ) (x : Screen) → x ≡ screen (questionLines f m s g)
+      → (n p : ℕ) → (numbersOf x ≡ refused n p) ↔ IsLowestLine (questionLines f m s g) n p

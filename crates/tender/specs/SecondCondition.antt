@@ -17,9 +17,13 @@ use Rattle.maptext.specs.declared.Read.the-variants.{Map}
 use Rattle.maptext.specs.declared.Written.the-variants.{Length}
 use Rattle.maptext.specs.Text.{IsWritten}
 use Rattle.maptext.specs.Reading.{IsRead}
+use Rattle.claims.specs.declared.RouteVerdict.{RouteVerdict}
 use Rattle.claims.specs.declared.RouteVerdict.the-variants.{Holds}
+use Rattle.claims.specs.declared.TableVerdict.{TableVerdict}
 use Rattle.claims.specs.declared.TableVerdict.the-variants.{Right}
+use Rattle.claims.specs.Route as route
 use Rattle.claims.specs.Route.{Claim, claimLines, routeVerdict}
+use Rattle.claims.specs.Table as claimed
 use Rattle.claims.specs.Table.{tableLines, tableVerdict}
 use Rattle.search.specs.declared.Answer.{Answer}
 use Rattle.search.specs.declared.AnswerNumbers.{AnswerNumbers}
@@ -33,12 +37,13 @@ pub record SecondCondition : Type 0 where
   pub call : (f : Floor) (m : List ℕ) (q : Question) (r : Rooms) (n : AnswerNumbers) (r′ : Rooms) → Called f m q r n r′
       → screen (searchLines f m q r) ≡ Passed → TableHolds f m q n r r′
   -- "Claims not refused are accepted exactly when true": a route, a cost table, and a "none" by the table
-  pub route-claim : (f : Floor) (m : List ℕ) (c : Claim) → screen (claimLines f m c) ≡ Passed
-      → (routeVerdict f m c ≡ Holds (c .cost))
-      ↔ (Route (graph f m) (c .start) (c .goal) (c .route) × (costOf (graph f m) (c .start) (c .route) ≡ c .cost))
-  pub table-claim : (f : Floor) (m : List ℕ) (s : ℕ) (t : List ℕ) → screen (tableLines f m s t) ≡ Passed
-      → (tableVerdict f m s t ≡ Right) ↔ table.Right (graph f m) s (take (cells f) t)
-  pub none-claim : (f : Floor) (m : List ℕ) (s : ℕ) (t : List ℕ) → tableVerdict f m s t ≡ Right → (goal : ℕ) → goal < cells f
+  pub route-claim : (f : Floor) (m : List ℕ) (c : Claim) (v : RouteVerdict) → route.numbersOf v ≡ routeVerdict f m c → screen (claimLines f m c) ≡ Passed
+      → (k : ℕ) → (v ≡ Holds k)
+      ↔ (Route (graph f m) (c .start) (c .goal) (c .route) × (costOf (graph f m) (c .start) (c .route) ≡ c .cost) × (k ≡ c .cost))
+  pub table-claim : (f : Floor) (m : List ℕ) (s : ℕ) (t : List ℕ) (v : TableVerdict) → claimed.numbersOf v ≡ tableVerdict f m s t
+      → screen (tableLines f m s t) ≡ Passed → (v ≡ Right) ↔ table.Right (graph f m) s (take (cells f) t)
+  pub none-claim : (f : Floor) (m : List ℕ) (s : ℕ) (t : List ℕ) (v : TableVerdict) → claimed.numbersOf v ≡ tableVerdict f m s t
+      → v ≡ Right → (goal : ℕ) → goal < cells f
       → (getD t goal 0 ≡ MARK) ↔ (Reachable (graph f m) s goal → ⊥)
   -- "a map written as text reads back the same", ways apart; n is the length that the writer returned
   pub map : (f : Floor) (m text text′ : List ℕ) (n : ℕ) → IsWritten f m text (Length n) text′

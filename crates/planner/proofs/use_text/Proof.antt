@@ -1,5 +1,4 @@
 -- A map that can be used has its cells in the room.
-use mathlib.Core.Path.{sym, _∙_}
 use Prim.Native.Nat.{ℕ, _*_, _≤_}
 use native.Mathlib.Omega.{arith}
 use borrow.Author.Needs.{needs}
@@ -28,7 +27,7 @@ fits : (c : tie.After-known-told2) → let f = c .before .read2 .given .0 .0 in 
 fits c =
     let u = c .before .before .before .before .use-map in
     let f = c .before .read2 .given .0 .0 in
-    rw (u .kept .1 .0) (used-fits _ _ f (sym (c .before .read2 .given .1) ∙ u .ensures .answers))
+    rw (u .kept .1 .0) (used-fits _ _ f (c .before .read2 .given .1) (u .ensures .answers))
 
 mul-size : tie.Need-mul-size
 mul-size c = omega (arith, fits c, c .before .before .before .before .use-map .kept .1 .0, length-replicate {A = ℕ} 4096 0)

@@ -2,7 +2,8 @@
 use mathlib.Core.Path.{ap}
 use native.Mathlib.Omega.{arith}
 use borrow.Author.Needs.{needs}
-use Rattle.claims.specs.Route.{valueOf}
+use Rattle.claims.specs.declared.RouteVerdict.{RouteVerdict}
+use Rattle.claims.specs.Route.{numbersOf, valueOf}
 use Rattle.claims.proofs.routes.pack.Statement.{statement}
 use Rattle.claims.proofs.routes.pack.Tie as tie
 
@@ -16,7 +17,7 @@ mul-result : tie.Need-mul-result
 mul-result c = search needs
 
 add-result : tie.Need-add-result
-add-result c = omega (arith, ap valueOf (c .before .verdict .given .1))
+add-result c = omega (arith, ap (λ (v : RouteVerdict). valueOf (numbersOf v)) (c .before .verdict .given .1))
 
 enum-known-verdict-2 : tie.Need-enum-known-verdict-2
 enum-known-verdict-2 c = search needs
@@ -28,7 +29,7 @@ mul-result-2 : tie.Need-mul-result-2
 mul-result-2 c = search needs
 
 add-result-2 : tie.Need-add-result-2
-add-result-2 c = omega (arith, ap valueOf (c .before .verdict2 .given .1))
+add-result-2 c = omega (arith, ap (λ (v : RouteVerdict). valueOf (numbersOf v)) (c .before .verdict2 .given .1))
 
 enum-known-verdict-3 : tie.Need-enum-known-verdict-3
 enum-known-verdict-3 c = search needs

@@ -1,5 +1,4 @@
 -- Each return is one of the four things that `Using` has a text come to.
-use mathlib.Core.Path.{sym, _∙_}
 use Prim.Native.Nat.{_≤_}
 use native.Mathlib.Omega.{arith}
 use borrow.Author.Needs.{needs}
@@ -32,7 +31,7 @@ short : (c : tie.After-known-told) → length (start c .args .text .now) ≤ gre
 short c = omega arith
 
 is-map : (c : tie.After-known-told) → HasMap (start c .args .text .now) (length (start c .args .cells .now)) (c .before .judged .given .0 .0)
-is-map c = has-map _ _ _ (sym (c .before .judged .given .1) ∙ c .before .before .before .judge-map .ensures)
+is-map c = has-map _ _ _ (c .before .judged .given .1) (c .before .before .before .judge-map .ensures)
 
 returns-3 : tie.Need-returns-3
 returns-3 c = let t = c .before .before in too-wide _ _ (short t) _ (is-map t) (c .if2 .taken)

@@ -1,6 +1,6 @@
--- The code's table is the table of `specs/`, each row as the code has it.
+-- The code's table is the table of `specs/`.
 use borrow.Author.Needs.{needs}
-use Rattle.floor.proofs.Rows.{coded-is-row}
+use mathlib.Core.Path.{refl}
 use Rattle.floor.proofs.steps.direction_at.Statement.{statement}
 use Rattle.floor.proofs.steps.direction_at.Tie as tie
 
@@ -11,7 +11,7 @@ array-copy-out-result : tie.Need-array-copy-out-result
 array-copy-out-result c = search needs
 
 returns : tie.Need-returns
-returns c = coded-is-row (c .before .args .direction)
+returns c = refl
 
 pub direction-at-spec : {M : Type 1} → statement M
 direction-at-spec = tie.close (tie.spec mul-result array-copy-out-result returns)

@@ -4,7 +4,7 @@ use native.Mathlib.Omega.{arith}
 use borrow.Author.Needs.{needs}
 use mir.Syntax.{w32}
 use mir.Val.{ofZ, toZ}
-use Rattle.floor.specs.Direction.{rowOf, plusOne}
+use Rattle.floor.specs.Direction.{plusOne, eastOf, southOf}
 use Rattle.floor.proofs.Rows.{bounds}
 use Rattle.floor.proofs.steps.moved_place.Statement.{statement}
 use Rattle.floor.proofs.steps.moved_place.Tie as tie
@@ -13,10 +13,10 @@ direction-at-requires : tie.Need-direction-at-requires
 direction-at-requires c κs = search needs
 
 east : (c : tie.After-struct-told) →
-    plusOne (toZ w32 (ofZ w32 (c .before .direction-at .result .dx))) ≡ rowOf (c .before .before .args .direction) .east
+    plusOne (toZ w32 (ofZ w32 (c .before .direction-at .result .dx))) ≡ eastOf (c .before .before .args .direction)
 east c =
     let back : toZ w32 (ofZ w32 (c .before .direction-at .result .dx)) ≡ c .before .direction-at .result .dx = search needs in
-    rw back (c .before .direction-at .ensures .east)
+    rw (back, c .before .direction-at .ensures)
 
 shifted-requires : tie.Need-shifted-requires
 shifted-requires c κs =
@@ -25,11 +25,11 @@ shifted-requires c κs =
 
 south : (c : tie.After-struct-told2) →
     let d = c .before .before .before in
-    plusOne (toZ w32 (ofZ w32 (d .direction-at .result .dy))) ≡ rowOf (d .before .args .direction) .south
+    plusOne (toZ w32 (ofZ w32 (d .direction-at .result .dy))) ≡ southOf (d .before .args .direction)
 south c =
     let d = c .before .before .before .direction-at in
     let back : toZ w32 (ofZ w32 (d .result .dy)) ≡ d .result .dy = search needs in
-    rw back (d .ensures .south)
+    rw (back, d .ensures)
 
 shifted-requires-2 : tie.Need-shifted-requires-2
 shifted-requires-2 c κs =

@@ -19,12 +19,12 @@ widened-requires c κs = search needs
 mul-result : tie.Need-mul-result
 mul-result c =
     let s = c .before .before .before .before .before in
-    rw (c .before .before .before .direction-at .ensures .unit)
+    rw (c .before .before .before .direction-at .ensures)
     (omega (arith, mul-le-mul (bounds (s .args .direction) (s .pre .2) .unit) (c .before .widened .ensures .1)))
 
 returns : tie.Need-returns
 unfolding stepCost stepWeight
-returns c = rw (c .before .before .before .direction-at .ensures .unit, c .before .widened .ensures .0)
+returns c = rw (c .before .before .before .direction-at .ensures, c .before .widened .ensures .0)
 
 pub step-cost-spec : {M : Type 1} → statement M
 step-cost-spec =

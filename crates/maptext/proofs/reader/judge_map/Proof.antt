@@ -10,7 +10,7 @@ use lib.ListN.{length, drop}
 use Rattle.floor.specs.declared.Screen.{Screen}
 use Rattle.floor.specs.Place.{greatestSide}
 use Rattle.maptext.specs.Text.{typeLine, mapLine}
-use Rattle.maptext.specs.Reading.{begins, heightIn, widthAt, widthIn, mapAt}
+use Rattle.maptext.specs.Reading.{begins, heightIn, widthAt, widthIn, mapAt, numbersOf}
 use Rattle.maptext.specs.Working.{answerFor}
 use Rattle.maptext.proofs.Headers.{refused-21, refused-22, refused-23, refused-24, refused-29, rows-judged, height-within, width-within, map-within, rows-within}
 use Rattle.maptext.proofs.reader.judge_map.Statement.{statement}
@@ -159,8 +159,9 @@ returns-4 c =
     let width = d .before .before .before .before .before .before in
     let height = width .before .before .before .before .before in
     let e = line₃ d in
-    c .answer .ensures
-    ∙ ap (λ (x : Screen). answerFor x (width .side-at2 .result) (height .side-at .result)) (j .judge-rows .ensures)
+    ap numbersOf
+    (c .answer .ensures
+    ∙ ap (λ (x : Screen). answerFor x (width .side-at2 .result) (height .side-at .result)) (j .judge-rows .ensures))
     ∙ rows-judged _ _ (first (line₁ (line₂ e))) (second (line₂ e)) (third e) (fourth d) (omega (arith, product d, j .before .if5 .left))
     (width-is width)
     (height .side-at .ensures)

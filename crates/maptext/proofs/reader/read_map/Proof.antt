@@ -1,5 +1,5 @@
 -- A refusal is answered at once; else the rows, which end the text, are stored.
-use mathlib.Core.Path.{_≡_, sym, _∙_}
+use mathlib.Core.Path.{_≡_}
 use Prim.Native.Nat.{suc, _+_, _*_}
 use native.Mathlib.Nat.{mul-comm}
 use native.Mathlib.Omega.{arith}
@@ -26,7 +26,7 @@ abbrev start : tie.After-known-told → tie.Start
 start c = c .before .before .before .before .before .before
 
 is-map : (c : tie.After-known-told) → HasMap (start c .args .text .now) (length (start c .args .cells .now)) (c .before .judged .given .0 .0)
-is-map c = has-map _ _ _ (sym (c .before .judged .given .1) ∙ c .before .before .before .judge-map .ensures)
+is-map c = has-map _ _ _ (c .before .judged .given .1) (c .before .before .before .judge-map .ensures)
 
 -- the rows end the text
 ending : (c : tie.After-known-told) →

@@ -7,10 +7,10 @@ use Prim.Native.Nat.{ℕ, _≤_, _<_}
 use native.Mathlib.Omega.{arith}
 use lib.Dec.{T, ltb, ltb→lt}
 use Rattle.paths.proofs.Bools.{true-T, T-and}
 use Rattle.floor.specs.declared.Screen.{Screen}
 use Rattle.floor.specs.declared.Screen.the-variants.{Refused}
 use Rattle.floor.specs.Refusal.{Line, line, screen}
-use Rattle.tender.specs.FirstCondition.{Has, IsLowestLine}
+use Rattle.floor.specs.LowestLine.{Has, IsLowestLine}
 
 -- the numbers rise along the list, from above b on
 abbrev pub rising : ℕ → List Line → Bool
