@@ -13,11 +13,12 @@ use Rattle.paths.proofs.Below.{every-at}
 use Rattle.floor.specs.declared.Screen.the-variants.{Passed}
 use Rattle.floor.specs.Place.{greatestSide, greatestWeight}
 use Rattle.floor.specs.Refusal.{screen}
-use Rattle.maptext.specs.Text.{LF, typeLine, heightWord, widthWord, mapLine, sideLine, header, charOf, rows}
-use Rattle.maptext.specs.Reading.{whole, oneCell, cellOf, begins, heightIn, widthAt, widthIn, mapAt, rowsAt, headerLines, readRow, readRows, readingOf, read, rowsIn}
+use Rattle.textlines.specs.Line.{LF, sideLine, begins}
+use Rattle.maptext.specs.Text.{typeLine, heightWord, widthWord, mapLine, header, charOf, rows}
+use Rattle.maptext.specs.Reading.{whole, oneCell, cellOf, heightIn, widthAt, widthIn, mapAt, rowsAt, headerLines, readRow, readRows, readingOf, read, rowsIn}
 use Rattle.maptext.specs.Working.{isCell, byteFor, Weights}
-use Rattle.maptext.proofs.Beginnings.{begins-append}
-use Rattle.maptext.proofs.Sides.{side-in-is}
+use Rattle.textlines.proofs.Beginnings.{begins-append}
+use Rattle.textlines.proofs.Sides.{side-in-is}
 use Rattle.maptext.proofs.Headers.{header-passed}
 use Rattle.maptext.proofs.Filling.{mapped-length}
 use Rattle.maptext.proofs.Whole.{whole-cell}

@@ -11,9 +11,9 @@ use borrow.Author.Tests.{eq-eqb, ne-eqb, lt-ltb, le-ltb}
 use lib.Dec.{eqb, ltb}
 use lib.ListN.{length, getD, drop, length-drop}
 use lib.Seq.{getD-drop, drop-drop}
+use Rattle.textlines.specs.Line.{LF}
 use Rattle.maptext.specs.declared.Cell.{Cell}
 use Rattle.maptext.specs.declared.Cell.the-variants.{Weight, Blocked, NoCell}
-use Rattle.maptext.specs.Text.{LF}
 use Rattle.maptext.specs.Reading.{Rows, whole, fault, andThen, oneCell, cellOf, readRow, readRows, heightIn, widthIn, rowsAt, rowsIn}
 use Rattle.maptext.specs.Faults.{IsRight, IsWrong, no-cell, no-line-end, too-soon, further, IsRowsFault}
 

@@ -17,7 +17,7 @@ use Rattle.floor.proofs.Passing.{MapFacts}
 use Rattle.maptext.specs.declared.Cell.{Cell}
 use Rattle.maptext.specs.Reading.{Rows, whole, fault, read, cellOf, heightIn, widthIn, rowsAt, headerLines, readRows, ofRows, afterHeader, readingOf, rowsIn}
 use Rattle.maptext.specs.Working.{byteFor, byteOf, bytesIn, judged, Weights}
-use Rattle.maptext.proofs.Sides.{side-positive}
+use Rattle.textlines.proofs.Sides.{side-positive}
 use Rattle.maptext.proofs.Whole.{whole-rows, rows-length, bytes-length}
 
 whole-inj : {m n : List ℕ} → whole m ≡ whole n → m ≡ n

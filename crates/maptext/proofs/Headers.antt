@@ -12,11 +12,12 @@ use Rattle.floor.specs.declared.Screen.the-variants.{Passed, Refused}
 use Rattle.floor.specs.Place.{greatestSide}
 use Rattle.floor.specs.Refusal.{screen}
 use Rattle.floor.specs.Numbers.{Numbers}
-use Rattle.maptext.specs.Text.{typeLine, mapLine, sideLine}
-use Rattle.maptext.specs.Reading.{Rows, whole, fault, begins, sideIn, heightIn, widthAt, widthIn, mapAt, rowsAt, headerLines, readRows, ofRows, readingOf, numbersOf, readFor, rowsIn}
+use Rattle.textlines.specs.Line.{sideLine, begins, sideIn}
+use Rattle.maptext.specs.Text.{typeLine, mapLine}
+use Rattle.maptext.specs.Reading.{Rows, whole, fault, heightIn, widthAt, widthIn, mapAt, rowsAt, headerLines, readRows, ofRows, readingOf, numbersOf, readFor, rowsIn}
 use Rattle.maptext.specs.Working.{judged, answerFor}
-use Rattle.maptext.proofs.Beginnings.{begins-length}
-use Rattle.maptext.proofs.Sides.{side-there}
+use Rattle.textlines.proofs.Beginnings.{begins-length}
+use Rattle.textlines.proofs.Sides.{side-there}
 
 line-within : (line text : List ℕ) (at : ℕ) → at ≤ length text → T (begins line (drop at text)) → at + length line ≤ length text
 line-within line text at h t = omega (arith, begins-length line (drop at text) t, length-drop at text)

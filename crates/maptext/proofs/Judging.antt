@@ -10,9 +10,9 @@ use borrow.Author.Tests.{eq-eqb, ne-eqb}
 use lib.ListN.{length, getD, drop, drop-of-length-le}
 use lib.Seq.{drop-cons, drop-drop}
 use Rattle.floor.specs.declared.Screen.the-variants.{Passed, Refused}
+use Rattle.textlines.specs.Line.{LF}
 use Rattle.maptext.specs.declared.Cell.{Cell}
 use Rattle.maptext.specs.declared.Cell.the-variants.{Weight, Blocked, NoCell}
-use Rattle.maptext.specs.Text.{LF}
 use Rattle.maptext.specs.Reading.{Rows, whole, fault, andThen, oneCell, cellOf, readRow, readRows}
 use Rattle.maptext.specs.Working.{isCell, judged}
 

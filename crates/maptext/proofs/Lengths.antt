@@ -5,7 +5,8 @@ use Prim.Native.Nat.{ℕ, zero, suc, _+_, _*_, _≤_}
 use native.Mathlib.Nat.{suc-mul}
 use native.Mathlib.Omega.{arith}
 use lib.ListN.{length, take, drop, length-append, length-drop}
-use Rattle.maptext.specs.Text.{LF, heightWord, widthWord, sideLine, charOf, header, rows, textOf}
+use Rattle.textlines.specs.Line.{LF, sideLine}
+use Rattle.maptext.specs.Text.{heightWord, widthWord, charOf, header, rows, textOf}
 use Rattle.maptext.proofs.Filling.{mapped-length}
 
 pub header-length : (w h : ℕ) → length (header w h) ≡ 12 + length (sideLine heightWord h) + length (sideLine widthWord w) + 4

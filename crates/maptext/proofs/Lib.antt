@@ -1,7 +1,3 @@
-pub mod Rooms
-pub mod Beginnings
-pub mod Decimals
-pub mod Sides
 pub mod Headers
 pub mod Judging
 pub mod Filling

@@ -17,10 +17,11 @@ use Rattle.floor.specs.LowestLine.{Has}
 use Rattle.floor.proofs.Lines.{lowest-line}
 use Rattle.floor.proofs.Screens.{none-given}
 use Rattle.floor.proofs.Passing.{side}
-use Rattle.maptext.specs.Text.{LF, digits, typeLine, heightWord, widthWord, mapLine, sideLine}
-use Rattle.maptext.specs.Reading.{Rows, whole, fault, begins, sideIn, heightIn, widthAt, widthIn, mapAt, rowsAt, rowsIn, headerLines, refused, ofRows, afterHeader, readingOf}
+use Rattle.textlines.specs.Line.{LF, digits, sideLine, begins, sideIn}
+use Rattle.maptext.specs.Text.{typeLine, heightWord, widthWord, mapLine}
+use Rattle.maptext.specs.Reading.{Rows, whole, fault, heightIn, widthAt, widthIn, mapAt, rowsAt, rowsIn, headerLines, refused, ofRows, afterHeader, readingOf}
 use Rattle.maptext.specs.Faults.{IsWrong, no-cell, no-line-end, too-soon, further, IsRowsFault, IsFirstFault, EndsTooSoon, LinesBefore, first, second, third, fourth, EndsInLine}
-use Rattle.maptext.proofs.Sides.{side-in-none}
+use Rattle.textlines.proofs.Sides.{side-in-none}
 use Rattle.maptext.proofs.Headers.{rows-within}
 use Rattle.maptext.proofs.Back.{height-line, after-height, width-line, after-width}
 use Rattle.maptext.proofs.Faults.{rows-fault-exactly}

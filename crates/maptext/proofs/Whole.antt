@@ -8,9 +8,9 @@ use native.Mathlib.Omega.{arith}
 use lib.Dec.{eqb}
 use lib.ListN.{length, take, drop, length-append, length-drop}
 use Rattle.floor.specs.declared.Screen.the-variants.{Passed}
+use Rattle.textlines.specs.Line.{LF}
 use Rattle.maptext.specs.declared.Cell.{Cell}
 use Rattle.maptext.specs.declared.Cell.the-variants.{Weight, Blocked, NoCell}
-use Rattle.maptext.specs.Text.{LF}
 use Rattle.maptext.specs.Reading.{Rows, whole, fault, andThen, oneCell, cellOf, readRow, readRows}
 use Rattle.maptext.specs.Working.{isCell, byteFor, byteOf, bytesIn, judged}
 use Rattle.maptext.proofs.Judging.{row-there}

@@ -9,8 +9,9 @@ use Rattle.floor.specs.declared.Screen.the-variants.{Passed}
 use Rattle.floor.specs.Place.{isSide}
 use Rattle.floor.specs.Refusal.{screen}
 use Rattle.floor.specs.LowestLine.{IsLowestLine}
+use Rattle.textlines.specs.Line.{LF, sideLine}
 use Rattle.maptext.specs.declared.Cell.the-variants.{NoCell}
-use Rattle.maptext.specs.Text.{LF, typeLine, heightWord, widthWord, sideLine}
+use Rattle.maptext.specs.Text.{typeLine, heightWord, widthWord}
 use Rattle.maptext.specs.Reading.{cellOf, heightIn, widthIn, rowsAt, headerLines}
 
 -- byte b is right at offset i of rows of w cells: a cell character where a cell is due, and LF after a full row

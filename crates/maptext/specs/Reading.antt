@@ -1,21 +1,21 @@
 -- What a text reads as: a map, or the first refusal of 21 to 29 in 01's order.
 use mathlib.Core.Path.{_≡_}
-use mathlib.Core.Bool.{Bool, true, false, cond, not, _&&_}
+use mathlib.Core.Bool.{cond, not, _&&_}
 use mathlib.Core.List.{List, [], _∷_, _++_}
 use Prim.Native.Nat.{ℕ, zero, suc, _+_, _-_, _*_}
 use lib.Dec.{eqb, ltb}
 use lib.ListN.{length, drop}
-use Rattle.paths.specs.Below.{lowest}
 use Rattle.floor.specs.declared.Screen.{Screen}
 use Rattle.floor.specs.declared.Screen.the-variants.{Passed, Refused}
 use Rattle.floor.specs.Place.{greatestSide}
 use Rattle.floor.specs.Refusal.{Line, line, screen}
 use Rattle.floor.specs.Numbers.{Numbers, gives}
+use Rattle.textlines.specs.Line.{LF, sideLine, begins, sideIn}
 use Rattle.maptext.specs.declared.Cell.{Cell}
 use Rattle.maptext.specs.declared.Cell.the-variants.{Weight, Blocked, NoCell}
 use Rattle.maptext.specs.declared.Read.{Read}
 use Rattle.maptext.specs.declared.Read.the-variants.{Map}
-use Rattle.maptext.specs.Text.{LF, typeLine, heightWord, widthWord, mapLine, sideLine}
+use Rattle.maptext.specs.Text.{typeLine, heightWord, widthWord, mapLine}
 
 -- `.` and `G` are weight 1, `1` to `9` their own weight, `@`, `O` and `T` blocked; all else is no cell character
 unfoldable pub cellOf : ℕ → Cell
@@ -26,16 +26,6 @@ cellOf b =
     (cond (eqb b 64) Blocked
     (cond (eqb b 79) Blocked
     (cond (eqb b 84) Blocked NoCell)))))
-
--- the text begins with the line
-abbrev pub begins : List ℕ → List ℕ → Bool
-begins [] text = true
-begins (b ∷ bs) [] = false
-begins (b ∷ bs) (c ∷ cs) = eqb b c && begins bs cs
-
--- the side whose line the text begins with, or one more than the greatest
-unfoldable pub sideIn : List ℕ → List ℕ → ℕ
-sideIn word text = suc (lowest (λ n. begins (sideLine word (suc n)) text) greatestSide)
 
 -- cells read in rows, or the fault that was met first
 pub data Rows : Type 0 where

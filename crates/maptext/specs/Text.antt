@@ -1,8 +1,7 @@
 -- The text of a map, as the writer writes it.
 use mathlib.Core.Path.{_≡_}
-use mathlib.Core.Bool.{cond}
 use mathlib.Core.List.{List, [], _∷_, _++_, map}
-use Prim.Native.Nat.{ℕ, zero, suc, _+_, _/_, _%_}
+use Prim.Native.Nat.{ℕ, zero, suc, _+_}
 use lib.Dec.{ltb}
 use lib.ListN.{length, take, drop}
 use Rattle.floor.specs.declared.Floor.{Floor}
@@ -10,11 +9,9 @@ use Rattle.floor.specs.declared.Screen.{Screen}
 use Rattle.floor.specs.declared.Screen.the-variants.{Passed, Refused}
 use Rattle.floor.specs.Refusal.{Line, line, screen, mapLines}
 use Rattle.floor.specs.Numbers.{Numbers, refused, gives, afterScreen}
+use Rattle.textlines.specs.Line.{LF, sideLine}
 use Rattle.maptext.specs.declared.Written.{Written}
 use Rattle.maptext.specs.declared.Written.the-variants.{Length}
-
-abbrev pub LF : ℕ
-LF = 10
 
 -- `type octile`, `height `, `width `, `map`
 abbrev pub typeLine : List ℕ
@@ -28,15 +25,6 @@ widthWord = 119 ∷ 105 ∷ 100 ∷ 116 ∷ 104 ∷ 32 ∷ []
 
 abbrev pub mapLine : List ℕ
 mapLine = 109 ∷ 97 ∷ 112 ∷ LF ∷ []
-
--- a number below 10 to the k in decimal, with no leading zero
-abbrev pub digits : ℕ → ℕ → List ℕ
-digits zero n = []
-digits (suc k) n = cond (ltb n 10) ((48 + n) ∷ []) (digits k (n / 10) ++ ((48 + n % 10) ∷ []))
-
--- the line of a side: a side has at most four digits
-unfoldable pub sideLine : List ℕ → ℕ → List ℕ
-sideLine word n = word ++ digits 4 n ++ (LF ∷ [])
 
 unfoldable pub header : ℕ → ℕ → List ℕ
 header w h = typeLine ++ sideLine heightWord h ++ sideLine widthWord w ++ mapLine

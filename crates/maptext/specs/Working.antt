@@ -1,11 +1,8 @@
 -- What the parts of the reader and the writer promise to each other. What a text means is in Text and Reading.
-use mathlib.Core.Path.{_≡_}
-use mathlib.Core.Bool.{Bool, true, false, cond, _&&_}
-use mathlib.Core.List.{List, [], _∷_, _++_, map}
-use Prim.Native.Nat.{ℕ, zero, suc, _+_, _-_, _*_, _/_, _%_, _≤_}
-use lib.Dec.{leb, ltb}
-use lib.ListN.{length, getD, take, drop}
-use lib.Seq.{sets}
+use mathlib.Core.Bool.{Bool, true, false}
+use mathlib.Core.List.{List, [], _++_, map}
+use Prim.Native.Nat.{ℕ, zero, suc, _≤_}
+use lib.ListN.{getD, take, drop}
 use Rattle.floor.specs.declared.Screen.{Screen}
 use Rattle.floor.specs.declared.Screen.the-variants.{Passed, Refused}
 use Rattle.floor.specs.Place.{greatestWeight}
@@ -13,7 +10,6 @@ use Rattle.maptext.specs.declared.Cell.{Cell}
 use Rattle.maptext.specs.declared.Cell.the-variants.{Weight, Blocked, NoCell}
 use Rattle.maptext.specs.declared.Read.{Read}
 use Rattle.maptext.specs.declared.Read.the-variants.{Map}
-use Rattle.maptext.specs.Text.{heightWord}
 use Rattle.maptext.specs.Reading.{Rows, whole, fault, cellOf}
 
 abbrev pub isCell : Cell → Bool
@@ -44,24 +40,6 @@ judged (fault n p) = Refused n p
 abbrev pub answerFor : Screen → ℕ → ℕ → Read
 answerFor Passed w h = Map (record { width = w; height = h; ways = 8 })
 answerFor (Refused n p) w h = Read.Refused n p
-
--- the number that the digits at the beginning of a text give, read on from n; it stops at a number of four digits, which no side exceeds
-abbrev pub runValue : ℕ → List ℕ → ℕ
-runValue n [] = n
-runValue n (b ∷ bs) = cond (ltb n 1000 && (leb 48 b && leb b 57)) (runValue (10 * n + (b - 48)) bs) n
-
--- the length of the longer word of a side's line
-abbrev pub greatestWord : ℕ
-greatestWord = length heightWord
-
--- the digit of n at a unit (1, 10, 100, ..), if n reaches the unit
-unfoldable pub digitAt : ℕ → ℕ → List ℕ
-digitAt unit n = cond (ltb n unit) [] ((48 + n / unit % 10) ∷ [])
-
--- bs was put into the room at a place, and r is the place after it
-pub record IsPut (bs room : List ℕ) (at r : ℕ) (room′ : List ℕ) : Type 0 where
-  pub next : r ≡ at + length bs
-  pub leaves : room′ ≡ sets room at bs
 
 -- every byte of a map is a weight; past the end too, where `getD` gives its default
 abbrev pub Weights : List ℕ → Type 0

@@ -1,7 +1,6 @@
 // Map text: the reader and the writer of 01, "Map text". specs/Text.antt says what a map's text is, specs/Reading.antt what a text reads as.
 
 mod chars; // chars.rt: a cell and its character
-mod lines; // lines.rt: the lines of a header, and a room that is written from a place on
 mod reader; // reader.rt: from a text to a map
 mod writer; // writer.rt: from a map to a text
 

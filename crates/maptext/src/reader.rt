@@ -9,12 +9,12 @@ ghost use Rattle.maptext.specs.Working.{judged, answerFor, byteOf, bytes
 use crate::Read;
 use crate::chars::byte_of;
 use crate::chars::is_cell;
-use crate::lines::begins_at;
-use crate::lines::side_at;
-use crate::lines::side_line_length;
 use floor::Floor;
 use floor::GREATEST_SIDE;
 use floor::Screen;
+use textlines::lines::begins_at;
+use textlines::lines::side_at;
+use textlines::lines::side_line_length;
 
 // The first fault of one row. `row` is the text from that row on, and `at` the row's offset, for the places.
 fn judge_row(width: usize, at: usize, row: &[u8]) -> Screen

@@ -4,16 +4,18 @@ ghost use mathlib.Core.List.{_++_, [], _∷_, map};
 ghost use Prim.Native.Nat.{suc, _+_, _*_, _≤_, _<_};
 ghost use lib.ListN.{length, take};
 ghost use Rattle.floor.specs.Place.{greatestSide};
-ghost use Rattle.maptext.specs.Text.{LF, charOf, rows, header, IsWritten};
-ghost use Rattle.maptext.specs.Working.{IsPut, Weights};
+ghost use Rattle.textlines.specs.Line.{LF};
+ghost use Rattle.textlines.specs.Working.{IsPut};
+ghost use Rattle.maptext.specs.Text.{charOf, rows, header, IsWritten};
+ghost use Rattle.maptext.specs.Working.{Weights};
 use crate::Written;
 use crate::chars::char_of;
-use crate::lines::put;
-use crate::lines::put_side_line;
-use crate::lines::side_line_length;
 use floor::Floor;
 use floor::Screen;
 use floor::refusals::screen_map;
+use textlines::lines::put;
+use textlines::lines::put_side_line;
+use textlines::lines::side_line_length;
 
 fn put_cells(width: usize, cells: &[u8], room: &mut [u8], at: usize) -> usize
     requires { ⌜ Weights (now cells) × (width ≤ length (now cells)) × (at + width ≤ length (now room)) ⌝ }

@@ -9,8 +9,9 @@ use borrow.Author.Needs.{needs}
 use lib.ListN.{length, drop}
 use Rattle.floor.specs.declared.Screen.{Screen}
 use Rattle.floor.specs.Place.{greatestSide}
+use Rattle.textlines.specs.Line.{begins}
 use Rattle.maptext.specs.Text.{typeLine, mapLine}
-use Rattle.maptext.specs.Reading.{begins, heightIn, widthAt, widthIn, mapAt, numbersOf}
+use Rattle.maptext.specs.Reading.{heightIn, widthAt, widthIn, mapAt, numbersOf}
 use Rattle.maptext.specs.Working.{answerFor}
 use Rattle.maptext.proofs.Headers.{refused-21, refused-22, refused-23, refused-24, refused-29, rows-judged, height-within, width-within, map-within, rows-within}
 use Rattle.maptext.proofs.reader.judge_map.Statement.{statement}

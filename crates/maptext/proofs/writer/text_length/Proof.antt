@@ -4,7 +4,7 @@ use native.Mathlib.Nat.{mul-le-mul}
 use native.Mathlib.Omega.{arith}
 use borrow.Author.Needs.{needs}
 use Rattle.maptext.specs.Text.{heightWord, widthWord}
-use Rattle.maptext.proofs.Decimals.{short-line}
+use Rattle.textlines.proofs.Decimals.{short-line}
 use Rattle.maptext.proofs.Lengths.{header-length}
 use Rattle.maptext.proofs.writer.text_length.Statement.{statement}
 use Rattle.maptext.proofs.writer.text_length.Tie as tie

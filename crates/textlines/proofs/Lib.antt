@@ -1,0 +1,4 @@
+pub mod Rooms
+pub mod Beginnings
+pub mod Decimals
+pub mod Sides
