@@ -12,7 +12,7 @@ import tempfile
 import time
 from pathlib import Path
 
-from expected import MARK, RECORD, answer, maptext, output, question
+from expected import MARK, RECORD, fresh_answers, maptexts, output, question
 
 COMMAND = sys.argv[1:]
 LONG = 60  # seconds that no run takes
@@ -50,8 +50,8 @@ def spoiled(text, place, byte):
 
 
 def refused_texts():
-    good = maptext.text_of([".@.", "..."])
-    full = maptext.text_of(rows(64, 64))
+    good = maptexts.text_of([".@.", "..."])
+    full = maptexts.text_of(rows(64, 64))
     assert len(full) == 4195
     # too long before anything of it is read, and just not too long
     yield from (full + b"\n", b"x" * 4196, good * 200, b"x" * 4195, full[:-1], spoiled(full, 4194, b"."))
@@ -62,9 +62,9 @@ def refused_texts():
         yield from (good.replace(word, other) for other in others)
     yield from (good.replace(b"map", b"Map"), good.replace(b"height 2", b"height " + b"1" * 300))
     # 29 comes before the rows, and a side above 64 after them
-    yield from (maptext.text_of(["."], "65", "64"), maptext.text_of(["."], "256", "256"), maptext.text_of(["."], "17", "241"))
-    yield from (maptext.text_of(rows(65, 1)), maptext.text_of(rows(1, 65)), maptext.text_of(rows(65, 63)), maptext.text_of(rows(256, 16, "@")))
-    yield from (maptext.text_of(rows(65, 1)) + b".", spoiled(maptext.text_of(rows(65, 2)), 100, b"S"))
+    yield from (maptexts.text_of(["."], "65", "64"), maptexts.text_of(["."], "256", "256"), maptexts.text_of(["."], "17", "241"))
+    yield from (maptexts.text_of(rows(65, 1)), maptexts.text_of(rows(1, 65)), maptexts.text_of(rows(65, 63)), maptexts.text_of(rows(256, 16, "@")))
+    yield from (maptexts.text_of(rows(65, 1)) + b".", spoiled(maptexts.text_of(rows(65, 2)), 100, b"S"))
     # faults in the rows, and a further byte
     yield from (spoiled(good, place, byte) for place in range(33, 41) for byte in (b"W", b"\n", b".", b"0", b"\r"))
     yield from (good + b"\n", good + b".", good[:-1])
@@ -84,12 +84,12 @@ def asked_of(generator, width, height, count):
 
 def floors():
     generator = random.Random(64)
-    yield maptext.text_of([".@."]), [question(0, 2, 1, 8), question(0, 2, 0, 8), question(0, 2, MARK, 4)]
-    yield maptext.text_of([".@", "@."]), [question(0, 3, 4, 8)]
-    yield maptext.text_of(["."]), [question(0, 0, limit, 8) for limit in (0, 1, MARK)]
+    yield maptexts.text_of([".@."]), [question(0, 2, 1, 8), question(0, 2, 0, 8), question(0, 2, MARK, 4)]
+    yield maptexts.text_of([".@", "@."]), [question(0, 3, 4, 8)]
+    yield maptexts.text_of(["."]), [question(0, 0, limit, 8) for limit in (0, 1, MARK)]
     for width, height, count in ((1, 1, 20), (7, 5, 300), (64, 1, 100), (1, 64, 100), (64, 64, 40), (63, 64, 20)):
         picture = ["".join(generator.choice("..G123456789@TO") for _ in range(width)) for _ in range(height)]
-        yield maptext.text_of(picture), list(asked_of(generator, width, height, count))
+        yield maptexts.text_of(picture), list(asked_of(generator, width, height, count))
 
 
 # ---- input in pieces ------------------------------------------------------------------------------------------------------------
@@ -154,12 +154,11 @@ def main():
     for text, asked in floors():
         piece = asked[0][: len(asked) % RECORD]
         try_text(text, b"".join(asked) + piece)
-        floor = maptext.read(text, 4096)
-        kinds |= {tuple(answer(floor, record)[:2]) for record in asked}
+        kinds |= {tuple(fresh_answers(text, record)[:2]) for record in asked}
         count += len(asked)
     print(f"planner: {count} questions, kinds and refusals {' '.join('%d/%d' % kind for kind in sorted(kinds))}")
 
-    text = maptext.text_of([".@.", "..."])
+    text = maptexts.text_of([".@.", "..."])
     asked = [question(0, 2, 5, 8), question(0, 2, 4, 8), question(1, 2, 5, 8), question(0, 2, 5, 8, b"\0\0\1"), question(3, 5, MARK, 4)]
     records = b"".join(asked) + asked[0][:9]
     for size in (1, 3, 7, 16, 17):

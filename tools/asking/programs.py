@@ -20,6 +20,7 @@ MOST_TEXT = 4195
 
 REFUSED, FOUND, NONE, STOPPED = range(4)
 SEARCH, ROUTE_CLAIM, READ_MAP = 1, 2, 4
+HOLDS = 1  # the kind of a route claim's answer
 
 # The eight directions: name, dx, dy.
 DIRECTIONS = (("N", 0, -1), ("NE", 1, -1), ("E", 1, 0), ("SE", 1, 1), ("S", 0, 1), ("SW", -1, 1), ("W", -1, 0), ("NW", -1, -1))
@@ -27,7 +28,8 @@ DIRECTIONS = (("N", 0, -1), ("NE", 1, -1), ("E", 1, 0), ("SE", 1, 1), ("S", 0, 1
 RECORD = 16
 QUESTION_LAYOUT = struct.Struct("<IIIB3s")
 ANSWER_LAYOUT = struct.Struct("<BB2sIII")
-HEAD_LAYOUT = struct.Struct("<12I")
+HEAD_LAYOUT = struct.Struct("<18I")
+NUMBERS_LAYOUT = struct.Struct("<6I")
 
 Floor = namedtuple("Floor", "width height cells")
 Question = namedtuple("Question", "start goal limit ways zeros")
@@ -111,46 +113,48 @@ class Calls:
         self.process.stdout.close()
         self.process.wait()
 
-    def call(self, head, body, reply_length):
+    def call(self, what, cells, floor=(0, 0, 0), start=0, goal=0, limit=0, costs=0, work=0, route=(0, b""), text=(0, b"")):
+        """The six numbers of the reply and its rooms, as they were left: map, costs, work, route, text. A room is its length and the bytes given; of the
+        costs and the work room nothing is given."""
+        head = (what, 0, *floor, start, goal, limit, cells[0], len(cells[1]), costs, 0, work, 0, route[0], len(route[1]), text[0], len(text[1]))
         try:
-            self.process.stdin.write(HEAD_LAYOUT.pack(*head) + body)
+            self.process.stdin.write(HEAD_LAYOUT.pack(*head) + cells[1] + route[1] + text[1])
             self.process.stdin.flush()
         except BrokenPipeError:
             pass  # the missing reply tells
-        reply = self.process.stdout.read(reply_length)
-        if len(reply) != reply_length:
+        lengths = (NUMBERS_LAYOUT.size, cells[0], 4 * costs, 4 * work, route[0], text[0])
+        parts = [self.process.stdout.read(length) for length in lengths]
+        if tuple(len(part) for part in parts) != lengths:
             raise Trouble("the program calls gave no whole reply; 'rt check calls' builds it")
-        return reply
+        return NUMBERS_LAYOUT.unpack(parts[0]), parts[1:]
 
     def read_map(self, text):
         """The floor of a map's text, or None if the reader refuses it; the planner says why."""
         text = text[: MOST_TEXT + 1]
-        head = (READ_MAP, 0, 0, 0, 0, 0, 0, MOST_CELLS, 0, 0, 0, len(text))
-        reply = self.call(head, text, 20 + MOST_CELLS)
-        refusal, _, width, height, _ = struct.unpack_from("<5I", reply)
-        if refusal != 0:
+        (kind, _, _, width, height, _), (cells, *_) = self.call(READ_MAP, (MOST_CELLS, b""), text=(len(text), text))
+        if kind == REFUSED:
             return None
-        return Floor(width, height, reply[20 : 20 + width * height])
+        return Floor(width, height, cells[: width * height])
 
     def search(self, floor, asked):
         """The answer to a question, as the planner would give it, and the rooms afterwards."""
         size = floor.width * floor.height
-        head = (SEARCH, floor.width, floor.height, asked.ways, asked.start, asked.goal, asked.limit, size, size, 2 * size, size, 0)
-        reply = self.call(head, floor.cells, 24 + 4 * size + 8 * size + size)
-        kind, refusal, _, settled, number, length = struct.unpack_from("<6I", reply)
+        shape = (floor.width, floor.height, asked.ways)
+        numbers, (_, costs, _, route, _) = self.call(
+            SEARCH, (size, floor.cells), shape, asked.start, asked.goal, asked.limit, costs=size, work=2 * size, route=(size, b"")
+        )
+        kind, refusal, _, settled, number, length = numbers
         answer = Answer(kind, refusal, b"\0\0", settled, number, length)
         if kind == REFUSED:
             return answer, None
-        costs = struct.unpack_from(f"<{size}I", reply, 24)
-        route = reply[24 + 12 * size :][:length]
-        return answer, Rooms(costs, route)
+        return answer, Rooms(struct.unpack(f"<{size}I", costs), route[:length])
 
     def route_holds(self, floor, asked, cost, route):
         """Whether the check of claimed routes, which does not know the search, takes the route at this cost."""
         size = floor.width * floor.height
-        head = (ROUTE_CLAIM, floor.width, floor.height, asked.ways, asked.start, asked.goal, cost, size, 0, 0, len(route), 0)
-        number, _, held = struct.unpack("<3I", self.call(head, floor.cells + route, 12))
-        return number == 0 and held == cost
+        shape = (floor.width, floor.height, asked.ways)
+        (kind, _, _, held, _, _), _ = self.call(ROUTE_CLAIM, (size, floor.cells), shape, asked.start, asked.goal, cost, route=(len(route), route))
+        return kind == HOLDS and held == cost
 
 
 def cells_of(floor, start, route):

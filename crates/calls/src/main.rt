@@ -1,175 +1,313 @@
-// Answers calls from standard input, one after the other, until it ends: what the libraries answer, and what they leave in the rooms, in full.
-// tests/compare drives it beside an independent planner; a front end gets costs and routes from it.
+// Answers calls of the libraries from standard input, one after the other, until it ends: what an entry answers and what it leaves in the rooms lent to it,
+// in full. tests/calls runs it on stored calls, tests/compare drives it beside an independent planner, and the front end gets costs and routes from it.
 //
-// All numbers have four bytes, the lowest first. A call is a head of twelve numbers,
-//     what, width, height, ways, start, goal, limit or cost, map length, costs length, work length, route length, text length
-// and then the bytes of what is given. A number that a call has no use for is not looked at.
+// All numbers have four bytes, the lowest first. A call is a head of 18 numbers:
+//     what; form; width, height, ways, start, goal, limit or cost;
+//     and for each of five rooms, map (bytes), costs (numbers), work (numbers), route (bytes), text (bytes), its length and how many entries are given.
+// Then come the entries that are given, room after room; they are repeated up to the room's length. A room that nothing is given for is as the call before
+// left it, at first zeros. So the caller says what a room held before, and what an entry left untouched shows. What a call has no use for is not looked at.
 //
-//   what           given after the head      reply
-//   1 search       map                       kind, refusal, place, settled, number returned, route length; costs, work and route room
-//   2 route claim  map, route                refusal or fault (0: it holds), place, cost
-//   3 table claim  map, costs (numbers)      refusal (0: right, 1000: breaks), place or cell, 0
-//   4 read a map   text                      refusal (0: read), place, width, height, ways; the cell room, of `map length` bytes
-//   5 write a map  map                       refusal (0: written), place, length; the text room, of `text length` bytes
+// The reply is six numbers and then the five rooms, whole, as they were left: if form is 0, these bytes; else two numbers, how many bytes they are and
+// their Adler-32. What an answer does not have is 0.
 //
-// Kinds: 0 refused, 1 found, 2 none, 3 stopped. What an answer does not have is 0. A room in a reply is all of it; a room that a call fills held
-// the old values below before, so that what was left untouched shows. Each reply is written before the next call is read.
-// An unknown `what`, a length above the program's rooms and an input that ends inside a call end the program.
-mod bytes; // bytes.rt: numbers in bytes, rooms, replies
+//   what                       the six numbers
+//    1 search                  kind (0 refused, 1 found, 2 none, 3 stopped), refusal, place, settled, number returned, route length
+//    2 check_route             kind (0 refused, 1 holds, 2 fault), refusal or fault, place, cost
+//    3 check_table             kind (0 refused, 1 right, 2 breaks), refusal, place or cell
+//    4 read_map                kind (0 refused, 1 read), refusal, place, width, height, ways
+//    5 write_map               kind (0 refused, 1 written), refusal, place, length
+//    6 judge_map               as read_map; the cell room's length is that of the map room
+//    7 fradnumber_check_route  low half and high half of what C gets
+//    8 fradnumber_search       the six fields of what C gets
+//    9 use_map                 as read_map
+//   10 answer_records          how many bytes are answers; the records are in the text room
+//
+// Each reply is written before the next call is read. An unknown `what`, a room longer than the program's, more given than a room's length, and an input that
+// ends inside a call end the program.
+mod wire; // wire.rt: numbers in bytes, rooms, replies
 
-use bytes::number_at;
-use bytes::with_number;
 use claims::RouteVerdict;
 use claims::TableVerdict;
+use claims::routes::check_route;
+use claims::routes::fradnumber_check_route;
+use claims::tables::check_table;
+use desk::answer_records;
+use desk::use_map;
 use floor::Floor;
 use floor::MARK;
+use libc::STDOUT_FILENO;
 use maptext::Read;
 use maptext::Written;
+use maptext::judge_map;
+use maptext::read_map;
+use maptext::write_map;
 use search::Answer;
+use search::AnswerNumbers;
+use search::rooms::fradnumber_search;
+use search::rooms::search;
+use wire::adler;
+use wire::fill_bytes;
+use wire::fill_numbers;
+use wire::put_bytes;
+use wire::put_numbers;
 
-const OLD_COST: u32 = 123456789;
+// The longest room of cells: the greatest floor, its text, and some more.
+const CELLS: usize = 66000;
 
-const OLD_WORK: u32 = 987654321;
+// The longest reply: six numbers, the three rooms of bytes, and the rooms of numbers, of which the work room has twice the cells.
+const WIRE: usize = 24 + 3 * CELLS + 4 * CELLS + 8 * CELLS;
 
-const OLD_BYTE: u8 = 200;
-
-const BREAKS: u32 = 1000;
-
+// A head. A room's name is its length.
 struct Call {
     what: u32,
-    floor: Floor,
+    form: u32,
+    width: u32,
+    height: u32,
+    ways: u32,
     start: u32,
     goal: u32,
     // the limit of a search, the cost of a route claim
     limit: u32,
     map: usize,
+    map_given: usize,
     costs: usize,
+    costs_given: usize,
     work: usize,
+    work_given: usize,
     route: usize,
+    route_given: usize,
     text: usize,
+    text_given: usize,
 }
 
-fn call_of(head: &[u8]) -> Call {
-    let what = number_at(head, 0);
-    let width = number_at(head, 4) as usize;
-    let height = number_at(head, 8) as usize;
-    let ways = number_at(head, 12) as usize;
-    let floor = Floor {
-        width,
-        height,
-        ways,
-    };
-    let start = number_at(head, 16);
-    let goal = number_at(head, 20);
-    let limit = number_at(head, 24);
-    let map = number_at(head, 28) as usize;
-    let costs = number_at(head, 32) as usize;
-    let work = number_at(head, 36) as usize;
-    let route = number_at(head, 40) as usize;
-    let text = number_at(head, 44) as usize;
+fn long(n: u32) -> usize {
+    n as usize
+}
+
+// Where the input ends before or inside a head, the head stays zeros, and no entry has the number 0.
+fn read_call() -> Call {
+    let mut bytes = [0u8; 72];
+    let mut head = [0u32; 18];
+    fill_numbers(&mut head, 18, &mut bytes);
     Call {
-        what,
-        floor,
-        start,
-        goal,
-        limit,
-        map,
-        costs,
-        work,
-        route,
-        text,
+        what: head[0],
+        form: head[1],
+        width: head[2],
+        height: head[3],
+        ways: head[4],
+        start: head[5],
+        goal: head[6],
+        limit: head[7],
+        map: long(head[8]),
+        map_given: long(head[9]),
+        costs: long(head[10]),
+        costs_given: long(head[11]),
+        work: long(head[12]),
+        work_given: long(head[13]),
+        route: long(head[14]),
+        route_given: long(head[15]),
+        text: long(head[16]),
+        text_given: long(head[17]),
     }
 }
 
-// Places and counts are far below 2 to the 32.
-fn short(n: usize) -> u32 {
-    (n % 4294967296) as u32
+// ---- answers as six numbers
+
+// All that is counted here fits; what should not fit shows as the greatest number.
+fn short(n: u64) -> u32 {
+    if n < 4294967296 {
+        return n as u32;
+    }
+    4294967295
 }
 
-fn with_count(reply: &mut [u8], at: usize, n: usize) -> usize {
-    with_number(reply, at, short(n))
-}
-
-// ---- search
-
-fn with_six(
-    reply: &mut [u8],
-    kind: u32,
-    refusal: u32,
-    place: usize,
-    settled: usize,
-    number: u32,
-    length: usize,
-) -> usize {
-    let one = with_number(reply, 0, kind);
-    let two = with_number(reply, one, refusal);
-    let three = with_count(reply, two, place);
-    let four = with_count(reply, three, settled);
-    let five = with_number(reply, four, number);
-    with_count(reply, five, length)
-}
-
-fn with_answer(reply: &mut [u8], answer: Answer) -> usize {
+fn of_answer(answer: Answer) -> [u32; 6] {
     match answer {
-        Answer::Refused(number, place) => with_six(reply, 0, number, place, 0, 0, 0),
-        Answer::Found(settled, cost, length) => with_six(reply, 1, 0, 0, settled, cost, length),
-        Answer::None(settled) => with_six(reply, 2, 0, 0, settled, MARK, 0),
-        Answer::Stopped(settled, floor) => with_six(reply, 3, 0, 0, settled, floor, 0),
+        Answer::Refused(number, place) => [0, number, short(place as u64), 0, 0, 0],
+        Answer::Found(settled, cost, length) => {
+            [1, 0, 0, short(settled as u64), cost, short(length as u64)]
+        }
+        Answer::None(settled) => [2, 0, 0, short(settled as u64), MARK, 0],
+        Answer::Stopped(settled, floor) => [3, 0, 0, short(settled as u64), floor, 0],
     }
 }
 
-fn send_search(
-    answer: Answer,
-    costs: &[u32],
-    work: &[u32],
-    route: &[u8],
-    reply: &mut [u8],
-) -> bool {
-    let head = with_answer(reply, answer);
-    let one = bytes::with_numbers(reply, head, costs);
-    let two = bytes::with_numbers(reply, one, work);
-    let length = bytes::with_bytes(reply, two, route);
-    bytes::send(reply, length)
+fn of_route(verdict: RouteVerdict) -> [u32; 6] {
+    match verdict {
+        RouteVerdict::Refused(number, place) => [0, number, short(place as u64), 0, 0, 0],
+        RouteVerdict::Holds(cost) => [1, 0, 0, cost, 0, 0],
+        RouteVerdict::Fault(number, place) => [2, number, short(place as u64), 0, 0, 0],
+    }
 }
 
-// Searches in rooms of exactly the lengths that the call asks for.
-fn search_rooms(
-    call: Call,
-    map: &[u8],
-    costs: &mut [u32],
-    work: &mut [u32],
-    route: &mut [u8],
-    reply: &mut [u8],
-) -> bool {
-    bytes::fill_numbers(costs, OLD_COST);
-    bytes::fill_numbers(work, OLD_WORK);
-    bytes::fill_bytes(route, OLD_BYTE);
-    let floor = call.floor;
-    let answer = search::rooms::search(
-        floor,
-        map,
-        call.start,
-        call.goal,
-        call.limit,
-        costs,
-        work,
-        route,
-    );
-    send_search(answer, costs, work, route, reply)
+fn of_table(verdict: TableVerdict) -> [u32; 6] {
+    match verdict {
+        TableVerdict::Refused(number, place) => [0, number, short(place as u64), 0, 0, 0],
+        TableVerdict::Right => [1, 0, 0, 0, 0, 0],
+        TableVerdict::Breaks(cell) => [2, 0, short(cell as u64), 0, 0, 0],
+    }
 }
 
-fn answer_search(
+fn of_read(read: Read) -> [u32; 6] {
+    match read {
+        Read::Refused(number, place) => [0, number, short(place as u64), 0, 0, 0],
+        Read::Map(f) => [
+            1,
+            0,
+            0,
+            short(f.width as u64),
+            short(f.height as u64),
+            short(f.ways as u64),
+        ],
+    }
+}
+
+fn of_written(written: Written) -> [u32; 6] {
+    match written {
+        Written::Refused(number, place) => [0, number, short(place as u64), 0, 0, 0],
+        Written::Length(length) => [1, 0, 0, short(length as u64), 0, 0],
+    }
+}
+
+fn of_halves(n: u64) -> [u32; 6] {
+    [short(n % 4294967296), short(n / 4294967296), 0, 0, 0, 0]
+}
+
+fn of_six(n: AnswerNumbers) -> [u32; 6] {
+    [
+        short(n.kind),
+        short(n.refusal),
+        short(n.place),
+        short(n.settled),
+        short(n.number),
+        short(n.length),
+    ]
+}
+
+// ---- one call after the other
+
+// Stands in place of a kind where there is no such entry.
+const NO_ENTRY: u32 = 4294967295;
+
+// Calls the entry on rooms of exactly the lengths asked for.
+fn ask(
     call: Call,
     map: &mut [u8],
     costs: &mut [u32],
     work: &mut [u32],
     route: &mut [u8],
-    reply: &mut [u8],
+    text: &mut [u8],
+) -> [u32; 6] {
+    let w = call.width;
+    let h = call.height;
+    let ways = call.ways;
+    let floor = Floor {
+        width: w as usize,
+        height: h as usize,
+        ways: ways as usize,
+    };
+    let start = call.start;
+    let goal = call.goal;
+    let limit = call.limit;
+    let what = call.what;
+    match what {
+        1 => of_answer(search(floor, map, start, goal, limit, costs, work, route)),
+        2 => of_route(check_route(floor, map, start, goal, limit, route)),
+        3 => of_table(check_table(floor, map, start, costs)),
+        4 => of_read(read_map(text, map)),
+        5 => of_written(write_map(floor, map, text)),
+        6 => of_read(judge_map(text, map.len())),
+        7 => of_halves(fradnumber_check_route(w, h, ways, map, start, goal, limit, route)),
+        8 => of_six(fradnumber_search(w, h, ways, map, start, goal, limit, costs, work, route)),
+        9 => of_read(use_map(text, map)),
+        10 => of_halves(answer_records(floor, map, text, costs, work, route) as u64),
+        _ => [NO_ENTRY, 0, 0, 0, 0, 0],
+    }
+}
+
+// False if the reply cannot be written.
+fn reply(
+    form: u32,
+    six: [u32; 6],
+    map: &[u8],
+    costs: &[u32],
+    work: &[u32],
+    route: &[u8],
+    text: &[u8],
+    wire: &mut [u8],
 ) -> bool {
+    let at_map = put_numbers(wire, 0, &six);
+    let at_costs = put_bytes(wire, at_map, map);
+    let at_work = put_numbers(wire, at_costs, costs);
+    let at_route = put_numbers(wire, at_work, work);
+    let at_text = put_bytes(wire, at_route, route);
+    let end = put_bytes(wire, at_text, text);
+    if wire.len() < end {
+        return false;
+    }
+    if form == 0 {
+        return io::write_all(STDOUT_FILENO, &wire[0..end]);
+    }
+    let two = [short(end as u64), adler(&wire[0..end])];
+    let mut digest = [0u8; 8];
+    put_numbers(&mut digest, 0, &two);
+    io::write_all(STDOUT_FILENO, &digest)
+}
+
+// False if more is given than there is room for, and if the input ends before.
+fn fill_rooms(
+    call: Call,
+    map: &mut [u8],
+    costs: &mut [u32],
+    work: &mut [u32],
+    route: &mut [u8],
+    text: &mut [u8],
+    wire: &mut [u8],
+) -> bool {
+    if fill_bytes(map, call.map_given) {
+        if fill_numbers(costs, call.costs_given, wire) {
+            if fill_numbers(work, call.work_given, wire) {
+                return fill_bytes(route, call.route_given) && fill_bytes(text, call.text_given);
+            }
+        }
+    }
+    false
+}
+
+// False if the call cannot be answered.
+fn answer_call(
+    call: Call,
+    map: &mut [u8],
+    costs: &mut [u32],
+    work: &mut [u32],
+    route: &mut [u8],
+    text: &mut [u8],
+    wire: &mut [u8],
+) -> bool {
+    if fill_rooms(call, map, costs, work, route, text, wire) {
+        let six = ask(call, map, costs, work, route, text);
+        if six[0] != NO_ENTRY {
+            return reply(call.form, six, map, costs, work, route, text, wire);
+        }
+    }
+    false
+}
+
+// One call, with the parts of the rooms that it asks for. False at the end of the input, and where the call cannot be answered.
+fn next_call(
+    map: &mut [u8],
+    costs: &mut [u32],
+    work: &mut [u32],
+    route: &mut [u8],
+    text: &mut [u8],
+    wire: &mut [u8],
+) -> bool {
+    let call = read_call();
     let map_length = call.map;
     let costs_length = call.costs;
     let work_length = call.work;
     let route_length = call.route;
+    let text_length = call.text;
     if map.len() < map_length {
         return false;
     }
@@ -182,203 +320,18 @@ fn answer_search(
     if route.len() < route_length {
         return false;
     }
-    if bytes::read_bytes(&mut map[0..map_length]) {
-        return search_rooms(
-            call,
-            &map[0..map_length],
-            &mut costs[0..costs_length],
-            &mut work[0..work_length],
-            &mut route[0..route_length],
-            reply,
-        );
-    }
-    false
-}
-
-// ---- claims
-
-fn with_three(reply: &mut [u8], number: u32, place: usize, last: u32) -> usize {
-    let one = with_number(reply, 0, number);
-    let two = with_count(reply, one, place);
-    with_number(reply, two, last)
-}
-
-fn send_three(reply: &mut [u8], number: u32, place: usize, last: u32) -> bool {
-    let length = with_three(reply, number, place, last);
-    bytes::send(reply, length)
-}
-
-fn check_route(call: Call, map: &[u8], route: &[u8], reply: &mut [u8]) -> bool {
-    let floor = call.floor;
-    let verdict = claims::routes::check_route(floor, map, call.start, call.goal, call.limit, route);
-    match verdict {
-        RouteVerdict::Refused(number, place) => send_three(reply, number, place, 0),
-        RouteVerdict::Fault(number, place) => send_three(reply, number, place, 0),
-        RouteVerdict::Holds(cost) => send_three(reply, 0, 0, cost),
-    }
-}
-
-fn answer_route_claim(call: Call, map: &mut [u8], route: &mut [u8], reply: &mut [u8]) -> bool {
-    let map_length = call.map;
-    let route_length = call.route;
-    if map.len() < map_length {
-        return false;
-    }
-    if route.len() < route_length {
-        return false;
-    }
-    if bytes::read_bytes(&mut map[0..map_length]) {
-        if bytes::read_bytes(&mut route[0..route_length]) {
-            return check_route(call, &map[0..map_length], &route[0..route_length], reply);
-        }
-    }
-    false
-}
-
-fn check_table(call: Call, map: &[u8], costs: &[u32], reply: &mut [u8]) -> bool {
-    let floor = call.floor;
-    let verdict = claims::tables::check_table(floor, map, call.start, costs);
-    match verdict {
-        TableVerdict::Refused(number, place) => send_three(reply, number, place, 0),
-        TableVerdict::Right => send_three(reply, 0, 0, 0),
-        TableVerdict::Breaks(cell) => send_three(reply, BREAKS, cell, 0),
-    }
-}
-
-fn answer_table_claim(call: Call, map: &mut [u8], costs: &mut [u32], reply: &mut [u8]) -> bool {
-    let map_length = call.map;
-    let costs_length = call.costs;
-    if map.len() < map_length {
-        return false;
-    }
-    if costs.len() < costs_length {
-        return false;
-    }
-    if bytes::read_bytes(&mut map[0..map_length]) {
-        if bytes::read_numbers(&mut costs[0..costs_length], reply) {
-            return check_table(call, &map[0..map_length], &costs[0..costs_length], reply);
-        }
-    }
-    false
-}
-
-// ---- map text
-
-fn with_reading(
-    reply: &mut [u8],
-    refusal: u32,
-    place: usize,
-    width: usize,
-    height: usize,
-    ways: usize,
-) -> usize {
-    let one = with_number(reply, 0, refusal);
-    let two = with_count(reply, one, place);
-    let three = with_count(reply, two, width);
-    let four = with_count(reply, three, height);
-    with_count(reply, four, ways)
-}
-
-fn with_read(reply: &mut [u8], read: Read) -> usize {
-    match read {
-        Read::Refused(number, place) => with_reading(reply, number, place, 0, 0, 0),
-        Read::Map(floor) => with_reading(reply, 0, 0, floor.width, floor.height, floor.ways),
-    }
-}
-
-fn send_with_room(reply: &mut [u8], head: usize, room: &[u8]) -> bool {
-    let length = bytes::with_bytes(reply, head, room);
-    bytes::send(reply, length)
-}
-
-fn read_text(text: &[u8], cells: &mut [u8], reply: &mut [u8]) -> bool {
-    bytes::fill_bytes(cells, OLD_BYTE);
-    let read = maptext::read_map(text, cells);
-    let head = with_read(reply, read);
-    send_with_room(reply, head, cells)
-}
-
-fn answer_read(call: Call, map: &mut [u8], text: &mut [u8], reply: &mut [u8]) -> bool {
-    let map_length = call.map;
-    let text_length = call.text;
-    if map.len() < map_length {
-        return false;
-    }
     if text.len() < text_length {
         return false;
     }
-    if bytes::read_bytes(&mut text[0..text_length]) {
-        return read_text(&text[0..text_length], &mut map[0..map_length], reply);
-    }
-    false
-}
-
-fn with_written(reply: &mut [u8], written: Written) -> usize {
-    match written {
-        Written::Refused(number, place) => with_three(reply, number, place, 0),
-        Written::Length(length) => with_three(reply, 0, 0, short(length)),
-    }
-}
-
-fn write_text(call: Call, map: &[u8], text: &mut [u8], reply: &mut [u8]) -> bool {
-    bytes::fill_bytes(text, OLD_BYTE);
-    let floor = call.floor;
-    let written = maptext::write_map(floor, map, text);
-    let head = with_written(reply, written);
-    send_with_room(reply, head, text)
-}
-
-fn answer_write(call: Call, map: &mut [u8], text: &mut [u8], reply: &mut [u8]) -> bool {
-    let map_length = call.map;
-    let text_length = call.text;
-    if map.len() < map_length {
-        return false;
-    }
-    if text.len() < text_length {
-        return false;
-    }
-    if bytes::read_bytes(&mut map[0..map_length]) {
-        return write_text(call, &map[0..map_length], &mut text[0..text_length], reply);
-    }
-    false
-}
-
-// ---- one call after the other
-
-// A route claim's route and a map's text are never in the same call, so `steps` holds either.
-fn answer_call(
-    call: Call,
-    map: &mut [u8],
-    costs: &mut [u32],
-    work: &mut [u32],
-    steps: &mut [u8],
-    reply: &mut [u8],
-) -> bool {
-    let what = call.what;
-    match what {
-        1 => answer_search(call, map, costs, work, steps, reply),
-        2 => answer_route_claim(call, map, steps, reply),
-        3 => answer_table_claim(call, map, costs, reply),
-        4 => answer_read(call, map, steps, reply),
-        5 => answer_write(call, map, steps, reply),
-        _ => false,
-    }
-}
-
-// One call. False at the end of the input, and where the call cannot be answered.
-fn next_call(
-    map: &mut [u8],
-    costs: &mut [u32],
-    work: &mut [u32],
-    steps: &mut [u8],
-    reply: &mut [u8],
-) -> bool {
-    let mut head = [0u8; 48];
-    if bytes::read_bytes(&mut head) {
-        let call = call_of(&head);
-        return answer_call(call, map, costs, work, steps, reply);
-    }
-    false
+    answer_call(
+        call,
+        &mut map[0..map_length],
+        &mut costs[0..costs_length],
+        &mut work[0..work_length],
+        &mut route[0..route_length],
+        &mut text[0..text_length],
+        wire,
+    )
 }
 
 // A proved loop has to end, and nothing says that the input does: it counts down from a number that no run uses up.
@@ -386,21 +339,29 @@ fn answer_calls(
     map: &mut [u8],
     costs: &mut [u32],
     work: &mut [u32],
-    steps: &mut [u8],
-    reply: &mut [u8],
+    route: &mut [u8],
+    text: &mut [u8],
+    wire: &mut [u8],
 ) {
     let mut turns = u64::MAX;
-    while turns > 0 && next_call(map, costs, work, steps, reply) {
+    while turns > 0 && next_call(map, costs, work, route, text, wire) {
         turns -= 1;
     }
 }
 
 fn main() {
-    let mut map = [0u8; 66000];
-    let mut costs = [0u32; 66000];
-    let mut work = [0u32; 132000];
-    let mut steps = [0u8; 66000];
-    // the bytes of a reply, and before that of a claimed table
-    let mut reply = [0u8; 264000];
-    answer_calls(&mut map, &mut costs, &mut work, &mut steps, &mut reply);
+    let mut map = [0u8; CELLS];
+    let mut costs = [0u32; CELLS];
+    let mut work = [0u32; 2 * CELLS];
+    let mut route = [0u8; CELLS];
+    let mut text = [0u8; CELLS];
+    let mut wire = [0u8; WIRE];
+    answer_calls(
+        &mut map,
+        &mut costs,
+        &mut work,
+        &mut route,
+        &mut text,
+        &mut wire,
+    );
 }

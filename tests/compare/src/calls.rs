@@ -1,15 +1,17 @@
 //! Calls of the program `calls` (crates/calls/src/main.rt has the form), and the replies that 01 asks for.
 
 use crate::claims::{check_route, check_table, RouteVerdict, TableVerdict};
-use crate::floor::{Floor, MARK};
+use crate::floor::{Floor, Refusal, MARK};
 use crate::maptext::{read_map, write_map};
 use crate::search::{search, Answer, Rooms};
 
-/// What the program fills the rooms with before a call.
+/// What a room that a call fills held before, so that what was left untouched shows.
 const OLD_COST: u32 = 123_456_789;
 const OLD_WORK: u32 = 987_654_321;
 const OLD_BYTE: u8 = 200;
-const BREAKS: u32 = 1000;
+
+/// The reply is asked for whole.
+const WHOLE: u32 = 0;
 
 #[derive(Clone, Copy, Debug, PartialEq)]
 pub enum What {
@@ -69,24 +71,52 @@ impl Call {
         }
     }
 
+    /// The rooms before the call.
+    fn before(&self) -> FiveRooms {
+        let mut rooms = FiveRooms {
+            map: self.map.clone(),
+            costs: Vec::new(),
+            work: Vec::new(),
+            route: Vec::new(),
+            text: Vec::new(),
+        };
+        match self.what {
+            What::Search => {
+                rooms.costs = vec![OLD_COST; self.costs_room];
+                rooms.work = vec![OLD_WORK; self.work_room];
+                rooms.route = vec![OLD_BYTE; self.byte_room];
+            }
+            What::RouteClaim => rooms.route = self.route.clone(),
+            What::TableClaim => rooms.costs = self.table.clone(),
+            What::ReadMap => {
+                rooms.map = vec![OLD_BYTE; self.byte_room];
+                rooms.text = self.text.clone();
+            }
+            What::WriteMap => rooms.text = vec![OLD_BYTE; self.byte_room],
+        }
+        rooms
+    }
+
     /// The bytes that ask for this call.
     pub fn request(&self) -> Vec<u8> {
-        let (what, map, costs, work, route, text) = match self.what {
-            What::Search => (
-                1,
-                self.map.len(),
-                self.costs_room,
-                self.work_room,
-                self.byte_room,
-                0,
-            ),
-            What::RouteClaim => (2, self.map.len(), 0, 0, self.route.len(), 0),
-            What::TableClaim => (3, self.map.len(), self.table.len(), 0, 0, 0),
-            What::ReadMap => (4, self.byte_room, 0, 0, 0, self.text.len()),
-            What::WriteMap => (5, self.map.len(), 0, 0, 0, self.byte_room),
+        let what = match self.what {
+            What::Search => 1,
+            What::RouteClaim => 2,
+            What::TableClaim => 3,
+            What::ReadMap => 4,
+            What::WriteMap => 5,
+        };
+        let rooms = self.before();
+        let given = FiveRooms {
+            map: given(&rooms.map),
+            costs: given(&rooms.costs),
+            work: given(&rooms.work),
+            route: given(&rooms.route),
+            text: given(&rooms.text),
         };
         let mut request = numbers(&[
             what,
+            WHOLE,
             self.width,
             self.height,
             self.ways,
@@ -94,41 +124,55 @@ impl Call {
             self.goal,
             self.limit,
         ]);
-        request.extend(numbers(
-            &[map, costs, work, route, text].map(|length| length as u32),
-        ));
-        request.extend(&self.map);
-        request.extend(&self.route);
-        request.extend(numbers(&self.table));
-        request.extend(&self.text);
+        for (length, count) in rooms.lengths().iter().zip(given.lengths()) {
+            request.extend(numbers(&[*length as u32, count as u32]));
+        }
+        request.extend(given.bytes());
         request
     }
 
     pub fn reply_length(&self) -> usize {
-        match self.what {
-            What::Search => 24 + 4 * self.costs_room + 4 * self.work_room + self.byte_room,
-            What::RouteClaim | What::TableClaim => 12,
-            What::ReadMap => 20 + self.byte_room,
-            What::WriteMap => 12 + self.byte_room,
-        }
+        SIX + self.before().bytes().len()
+    }
+
+    /// The numbers at the front of a whole reply, and the rooms as it has them.
+    pub fn parts(&self, reply: &[u8]) -> (Vec<u32>, FiveRooms) {
+        let [map, costs, work, route, _] = self.before().lengths();
+        let (six, rest) = reply.split_at(SIX);
+        let (map, rest) = rest.split_at(map);
+        let (costs, rest) = rest.split_at(4 * costs);
+        let (work, rest) = rest.split_at(4 * work);
+        let (route, text) = rest.split_at(route);
+        let rooms = FiveRooms {
+            map: map.to_vec(),
+            costs: numbers_of(costs),
+            work: numbers_of(work),
+            route: route.to_vec(),
+            text: text.to_vec(),
+        };
+        (numbers_of(six), rooms)
     }
 
     /// The reply that 01 asks for.
     pub fn expected(&self) -> Vec<u8> {
-        match self.what {
-            What::Search => self.expected_search(),
+        let mut rooms = self.before();
+        let six = match self.what {
+            What::Search => self.expected_search(&mut rooms),
             What::RouteClaim => self.expected_route_verdict(),
             What::TableClaim => self.expected_table_verdict(),
-            What::ReadMap => self.expected_reading(),
-            What::WriteMap => self.expected_writing(),
-        }
+            What::ReadMap => self.expected_reading(&mut rooms),
+            What::WriteMap => self.expected_writing(&mut rooms),
+        };
+        let mut reply = numbers(&six.map(|value| value as u32));
+        reply.extend(rooms.bytes());
+        reply
     }
 
-    fn expected_search(&self) -> Vec<u8> {
+    fn expected_search(&self, lent: &mut FiveRooms) -> [u64; 6] {
         let mut rooms = Rooms {
-            costs: vec![OLD_COST; self.costs_room],
-            work: vec![OLD_WORK; self.work_room],
-            route: vec![OLD_BYTE; self.byte_room],
+            costs: lent.costs.clone(),
+            work: lent.work.clone(),
+            route: lent.route.clone(),
         };
         let answer = search(
             self.floor(),
@@ -138,8 +182,11 @@ impl Call {
             self.limit as u64,
             &mut rooms,
         );
-        let six = match answer {
-            Answer::Refused(refused) => [0, refused.number as u64, refused.place, 0, 0, 0],
+        lent.costs = rooms.costs;
+        lent.work = rooms.work;
+        lent.route = rooms.route;
+        match answer {
+            Answer::Refused(refused) => refused_with(refused),
             Answer::Found {
                 settled,
                 cost,
@@ -147,54 +194,91 @@ impl Call {
             } => [1, 0, 0, settled, cost, length],
             Answer::None { settled } => [2, 0, 0, settled, MARK as u64, 0],
             Answer::Stopped { settled, floor } => [3, 0, 0, settled, floor, 0],
-        };
-        let mut reply = numbers(&six.map(|value| value as u32));
-        reply.extend(numbers(&rooms.costs));
-        reply.extend(numbers(&rooms.work));
-        reply.extend(&rooms.route);
-        reply
+        }
     }
 
-    fn expected_route_verdict(&self) -> Vec<u8> {
+    fn expected_route_verdict(&self) -> [u64; 6] {
         let (start, goal, cost) = (self.start as u64, self.goal as u64, self.limit as u64);
         match check_route(self.floor(), &self.map, start, goal, cost, &self.route) {
-            RouteVerdict::Fails(fault) => numbers(&[fault.number, fault.place as u32, 0]),
-            RouteVerdict::Holds(cost) => numbers(&[0, 0, cost as u32]),
+            RouteVerdict::Fails(fault) if fault.number > 40 => {
+                [2, fault.number as u64, fault.place, 0, 0, 0]
+            }
+            RouteVerdict::Fails(refused) => refused_with(refused),
+            RouteVerdict::Holds(cost) => [1, 0, 0, cost, 0, 0],
         }
     }
 
-    fn expected_table_verdict(&self) -> Vec<u8> {
+    fn expected_table_verdict(&self) -> [u64; 6] {
         match check_table(self.floor(), &self.map, self.start as u64, &self.table) {
-            TableVerdict::Refused(refused) => numbers(&[refused.number, refused.place as u32, 0]),
-            TableVerdict::Right => numbers(&[0, 0, 0]),
-            TableVerdict::Breaks(cell) => numbers(&[BREAKS, cell as u32, 0]),
+            TableVerdict::Refused(refused) => refused_with(refused),
+            TableVerdict::Right => [1, 0, 0, 0, 0, 0],
+            TableVerdict::Breaks(cell) => [2, 0, cell, 0, 0, 0],
         }
     }
 
-    fn expected_reading(&self) -> Vec<u8> {
-        let mut room = vec![OLD_BYTE; self.byte_room];
-        let mut reply = match read_map(&self.text, self.byte_room) {
-            Err(refused) => numbers(&[refused.number, refused.place as u32, 0, 0, 0]),
+    fn expected_reading(&self, lent: &mut FiveRooms) -> [u64; 6] {
+        match read_map(&self.text, self.byte_room) {
+            Err(refused) => refused_with(refused),
             Ok(map) => {
-                room[..map.cells.len()].copy_from_slice(&map.cells);
-                numbers(&[0, 0, map.width as u32, map.height as u32, 8])
+                lent.map[..map.cells.len()].copy_from_slice(&map.cells);
+                [1, 0, 0, map.width, map.height, 8]
             }
-        };
-        reply.extend(room);
-        reply
+        }
     }
 
-    fn expected_writing(&self) -> Vec<u8> {
-        let mut room = vec![OLD_BYTE; self.byte_room];
-        let mut reply = match write_map(self.floor(), &self.map, self.byte_room) {
-            Err(refused) => numbers(&[refused.number, refused.place as u32, 0]),
+    fn expected_writing(&self, lent: &mut FiveRooms) -> [u64; 6] {
+        match write_map(self.floor(), &self.map, self.byte_room) {
+            Err(refused) => refused_with(refused),
             Ok(text) => {
-                room[..text.len()].copy_from_slice(&text);
-                numbers(&[0, 0, text.len() as u32])
+                lent.text[..text.len()].copy_from_slice(&text);
+                [1, 0, 0, text.len() as u64, 0, 0]
             }
-        };
-        reply.extend(room);
-        reply
+        }
+    }
+}
+
+fn refused_with(refused: Refusal) -> [u64; 6] {
+    [0, refused.number as u64, refused.place, 0, 0, 0]
+}
+
+/// How many bytes the numbers at the front of a reply are.
+pub const SIX: usize = 24;
+
+/// The five rooms that a call lends.
+pub struct FiveRooms {
+    pub map: Vec<u8>,
+    pub costs: Vec<u32>,
+    pub work: Vec<u32>,
+    pub route: Vec<u8>,
+    pub text: Vec<u8>,
+}
+
+impl FiveRooms {
+    fn lengths(&self) -> [usize; 5] {
+        [
+            self.map.len(),
+            self.costs.len(),
+            self.work.len(),
+            self.route.len(),
+            self.text.len(),
+        ]
+    }
+
+    fn bytes(&self) -> Vec<u8> {
+        let mut bytes = self.map.clone();
+        bytes.extend(numbers(&self.costs));
+        bytes.extend(numbers(&self.work));
+        bytes.extend(&self.route);
+        bytes.extend(&self.text);
+        bytes
+    }
+}
+
+/// What is given of a room: of one that is all alike a single entry, which the program repeats.
+fn given<T: Clone + PartialEq>(room: &[T]) -> Vec<T> {
+    match room.first() {
+        Some(first) if room.iter().all(|entry| entry == first) => vec![first.clone()],
+        _ => room.to_vec(),
     }
 }
 
@@ -205,4 +289,11 @@ pub fn numbers(values: &[u32]) -> Vec<u8> {
         bytes.extend(value.to_le_bytes());
     }
     bytes
+}
+
+pub fn numbers_of(bytes: &[u8]) -> Vec<u32> {
+    bytes
+        .chunks_exact(4)
+        .map(|four| u32::from_le_bytes([four[0], four[1], four[2], four[3]]))
+        .collect()
 }

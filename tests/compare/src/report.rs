@@ -2,7 +2,7 @@
 
 use std::time::{Duration, Instant};
 
-use crate::calls::{Call, What};
+use crate::calls::{numbers_of, Call, What};
 use crate::floor::MARK;
 
 /// Smaller inputs are tried no longer than this.
@@ -202,31 +202,19 @@ pub fn quoted(text: &[u8]) -> String {
     format!("    \"{}\" ... \"{}\"", escaped(front), escaped(back))
 }
 
-fn numbers_of(bytes: &[u8]) -> Vec<u32> {
-    bytes
-        .chunks_exact(4)
-        .map(|four| u32::from_le_bytes([four[0], four[1], four[2], four[3]]))
-        .collect()
-}
-
 /// The kind of answer that a reply has, in a word and its number.
 pub fn outcome(call: &Call, reply: &[u8]) -> String {
     let head = numbers_of(&reply[..8]);
-    let (part, number, good) = match call.what {
-        What::Search => (
-            "search",
-            head[1],
-            ["", "found", "none", "stopped"][head[0] as usize],
-        ),
-        What::RouteClaim => ("route", head[0], "holds"),
-        What::TableClaim => ("table", head[0], "right"),
-        What::ReadMap => ("reader", head[0], "read"),
-        What::WriteMap => ("writer", head[0], "written"),
+    let (part, words): (&str, &[&str]) = match call.what {
+        What::Search => ("search", &["refused", "found", "none", "stopped"]),
+        What::RouteClaim => ("route", &["refused", "holds", "fault"]),
+        What::TableClaim => ("table", &["refused", "right", "breaks"]),
+        What::ReadMap => ("reader", &["refused", "read"]),
+        What::WriteMap => ("writer", &["refused", "written"]),
     };
-    match number {
-        0 => format!("{} {}", part, good),
-        1000 => format!("{} breaks", part),
-        _ => format!("{} {}", part, number),
+    match head[1] {
+        0 => format!("{} {}", part, words[head[0] as usize]),
+        number => format!("{} {}", part, number),
     }
 }
 
@@ -238,35 +226,29 @@ fn reply_words(call: &Call, reply: &[u8]) -> String {
     if reply.len() < call.reply_length() {
         return format!("only {} bytes of {}", reply.len(), call.reply_length());
     }
-    match call.what {
-        What::Search => {
-            let (head, rooms) = reply.split_at(24);
-            let (costs, rest) = rooms.split_at(4 * call.costs_room);
-            let (work, route) = rest.split_at(4 * call.work_room);
-            format!(
-                "kind, refusal, place, settled, number, length {:?}\n    costs {}\n    work {}\n    route {}",
-                numbers_of(head),
-                runs(&numbers_of(costs)),
-                runs(&numbers_of(work)),
-                runs(&widened(route))
-            )
+    let (six, rooms) = call.parts(reply);
+    let named = match call.what {
+        What::Search => "kind, refusal, place, settled, number, length",
+        What::RouteClaim => "kind, refusal or fault, place, cost",
+        What::TableClaim => "kind, refusal, place or cell",
+        What::ReadMap => "kind, refusal, place, width, height, ways",
+        What::WriteMap => "kind, refusal, place, length",
+    };
+    let mut words = format!("{} {:?}", named, six);
+    for (name, room) in [
+        ("map", widened(&rooms.map)),
+        ("costs", rooms.costs),
+        ("work", rooms.work),
+        ("route", widened(&rooms.route)),
+    ] {
+        if !room.is_empty() {
+            words += &format!("\n    {} {}", name, runs(&room));
         }
-        What::RouteClaim => format!("number, place, cost {:?}", numbers_of(reply)),
-        What::TableClaim => format!(
-            "number (1000 breaks), place or cell {:?}",
-            &numbers_of(reply)[..2]
-        ),
-        What::ReadMap => format!(
-            "refusal, place, width, height, ways {:?}\n    cells {}",
-            numbers_of(&reply[..20]),
-            runs(&widened(&reply[20..]))
-        ),
-        What::WriteMap => format!(
-            "refusal, place, length {:?}\n{}",
-            numbers_of(&reply[..12]),
-            quoted(&reply[12..])
-        ),
     }
+    if !rooms.text.is_empty() {
+        words += &format!("\n    text\n{}", quoted(&rooms.text));
+    }
+    words
 }
 
 /// Numbers with equal ones in a row counted: rooms are long and mostly the same number.

@@ -1,0 +1,75 @@
+#!/usr/bin/env python3
+"""Runs the program on the calls that expected.py made and names the first one whose reply differs; then on calls that end it.
+
+    drive.py FOLDER COMMAND WORD ..      FOLDER has what expected.py wrote; the words start the program, on this machine
+"""
+import json
+import subprocess
+import sys
+from pathlib import Path
+
+import plain
+import wire
+
+FOLDER, COMMAND = Path(sys.argv[1]), sys.argv[2:]
+LONG = 600  # seconds that no run takes
+
+
+def run(calls):
+    return subprocess.run(COMMAND, input=b"".join(calls), stdout=subprocess.PIPE, timeout=LONG, check=False).stdout
+
+
+def numbers(data):
+    return [int.from_bytes(data[at : at + 4], "little") for at in range(0, len(data), 4)]
+
+
+def words(call, reply):
+    if numbers(call[:8])[1] == wire.DIGEST:
+        return "digest %s" % numbers(reply)
+    return "numbers %s, rooms %s" % (numbers(reply[:24]), reply[24:].hex(" "))
+
+
+def compare(made, calls, due, output):
+    for place, (about, size, length) in enumerate(made):
+        call, calls = calls[:size], calls[size:]
+        reply, due = due[:length], due[length:]
+        got, output = output[:length], output[length:]
+        if got != reply:
+            sys.exit(f"calls: call {place} differs: {about}\n  head {numbers(call[:72])}\n  due {words(call, reply)}\n  got {words(call, got)}")
+    if output:
+        sys.exit(f"calls: {len(output)} bytes were written beyond the replies")
+
+
+def endings():
+    """Calls that end the program: none of them, and nothing after it, gets a reply."""
+    made = wire.Wire()
+    plain.search(made, plain.Floor(".@./...", 8), 0, 2, 5, 0)
+    plain.route_claim(made, plain.Floor(".@./...", 8), 0, 2, 280, [4, 2, 2, 0])
+    (_, first, due), (_, second, _) = made.made
+    with_number = lambda place, number: second[: 4 * place] + wire.packed([number]) + second[4 * place + 4 :]
+    for what in (0, len(wire.ENTRIES) + 1, 4294967295):
+        yield f"the unknown call {what}", [first, with_number(0, what), first], due
+    for place, name in enumerate(wire.ROOMS):
+        for length in (wire.LENGTHS[name] + 1, 4294967295):
+            yield f"a room for {name} of {length}", [first, with_number(8 + 2 * place, length), first], due
+    for place, name in ((0, "map"), (3, "route")):
+        length = second[32 + 8 * place]
+        yield f"more given than the room for {name} has", [first, with_number(9 + 2 * place, length + 1), first], due
+    for length in (1, 71, 72, 77, 78, len(second) - 1):
+        yield f"an input that ends after {length} bytes of a call", [first, second[:length]], due
+
+
+def main():
+    made = json.loads((FOLDER / "calls").read_text())
+    calls, due = (memoryview((FOLDER / name).read_bytes()) for name in ("stdin", "stdout"))
+    compare(made, calls, due, memoryview(run([calls])))
+    print(f"calls: {len(made)} calls, answered as due")
+    tried = list(endings())
+    for name, calls, due in tried:
+        if run(calls) != due:
+            sys.exit(f"calls: {name} does not end the program")
+    print(f"calls: {len(tried)} calls that end the program, or end in the middle")
+
+
+if __name__ == "__main__":
+    main()

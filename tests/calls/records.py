@@ -1,0 +1,312 @@
+"""Maps and question records for the desk, and what is due.
+
+How the expectation is produced: from the text of 01, "The program", with the references of the map text and of the searches.
+The answers to cases a to l are also held to the table of 01. All cases that are not listed one by one come from a generator
+with a fixed seed.
+"""
+import random
+import struct
+
+import maptexts
+import searches
+import wire
+
+MARK = searches.MARK
+RECORD = 16
+GREATEST_TEXT, GREATEST_SIDE, ROOM = 4195, 64, 4096
+PIECES = (16, 1, 3, 7, 17, 1000)
+
+
+# ---- what is due -----------------------------------------------------------------------------------------------------
+
+
+def refusal_of(text):
+    """The number and place that the program refuses a map text with, or None."""
+    if len(text) > GREATEST_TEXT:
+        return 14, 0
+    try:
+        width, height, _ = maptexts.read(text, ROOM)
+    except maptexts.Refused as refused:
+        return refused.args
+    return (14, 0) if max(width, height) > GREATEST_SIDE else None
+
+
+def used(text, room):
+    """What the desk answers about a map text, and leaves in the room."""
+    refused = refusal_of(text)
+    return [0, *refused] if refused else maptexts.read_into(text, room)
+
+
+def question(start, goal, limit, ways, zeros=b"\0\0\0"):
+    return struct.pack("<IIIB", start, goal, limit, ways) + zeros
+
+
+def answer(floor, record, costs, work, route):
+    """The answer record to a question record; alters the rooms as the search must."""
+    width, height, cells = floor
+    start, goal, limit, ways = struct.unpack("<IIIB", record[:13])
+    if record[13:] != b"\0\0\0":
+        return struct.pack("<BBxxIII", 0, 13, 0, 0, 0)
+    lengths = {"costs": len(costs), "work": len(work), "route": len(route)}
+    case = searches.case_of(width, height, ways, cells, start, goal, limit, **lengths)
+    kind, refusal, _, settled, number, length = searches.answer(case, costs, work, route)
+    return struct.pack("<BBxxIII", kind, refusal, settled, number, length)
+
+
+def answers(floor, records, costs, work, route):
+    """The answers to all whole records."""
+    whole = len(records) - len(records) % RECORD
+    return b"".join(answer(floor, records[at : at + RECORD], costs, work, route) for at in range(0, whole, RECORD))
+
+
+# ---- cases a to l ----------------------------------------------------------------------------------------------------
+
+# kind, settled, number, length
+ANSWERS_OF_01 = [
+    (1, 5, 280, 4),
+    (3, 4, 280, 0),
+    (1, 9, 198, 2),
+    (1, 9, 280, 4),
+    (1, 4, 700, 2),
+    (1, 5, 198, 2),
+    (2, 1, MARK, 0),
+    (3, 0, 0, 0),
+    (1, 1, 0, 0),
+    (1, 2, 630, 1),
+    (1, 2, 70, 1),
+    (2, 1, MARK, 0),
+]
+
+
+def fresh_answers(text, records):
+    """The answers of the program, whose rooms are those of the greatest floor."""
+    return answers(maptexts.read(text, ROOM), records, [0] * ROOM, [0] * 2 * ROOM, [0] * ROOM)
+
+
+def cases_of_01():
+    """The example record of 01 on case a's map, then each case with its record."""
+    small = maptexts.text_of([".@.", "..."])
+    asked, answered = bytes.fromhex("00000000020000000500000008000000"), "01000000050000001801000004000000"
+    assert fresh_answers(small, asked).hex() == answered
+    yield small, asked, 16
+    for case, (kind, settled, number, length) in zip(searches.cases_of_01(), ANSWERS_OF_01, strict=True):
+        text = maptexts.written(case["width"], case["height"], case["cells"])
+        record = question(case["start"], case["goal"], case["limit"], case["ways"])
+        assert fresh_answers(text, record) == struct.pack("<BBxxIII", kind, 0, settled, number, length)
+        yield text, record, 16
+
+
+# ---- maps that cannot be used, and those that just can -----------------------------------------------------------------
+
+
+def rows(width, height, mark="."):
+    return [mark * width] * height
+
+
+def spoiled(text, place, byte):
+    return text[:place] + byte + text[place + 1 :]
+
+
+def texts_of_size():
+    """14 by the text's length, and by a side; 29 comes between, and what the reader refuses comes before a side."""
+    full, wide, high = (maptexts.text_of(rows(*sides)) for sides in ((64, 64), (65, 1), (1, 65)))
+    assert len(full) == 4195
+    yield from (full, full + b"\n", full[:-1], spoiled(full, 4194, b"."), spoiled(full, 4193, b"0"), spoiled(full, 35, b"S"))
+    yield from (b"x" * 4195, b"x" * 4196, maptexts.text_of(["."]) * 150)
+    yield from (maptexts.text_of(rows(64, 1)), maptexts.text_of(rows(1, 64)), wide, high, maptexts.text_of(rows(65, 63)), maptexts.text_of(rows(256, 16, "@")))
+    yield from (wide + b"\n", high + b".", wide[:-1], spoiled(wide, 50, b"W"), spoiled(high, 60, b"-"))
+    for height, width in (("64", "65"), ("65", "64"), ("256", "256"), ("17", "241"), ("256", "16"), ("16", "256")):
+        yield from (maptexts.text_of(["."], height, width), maptexts.text_of(["S"], height, width))
+
+
+def spoiled_texts():
+    """Every reader's refusal, at several places."""
+    small = maptexts.text_of([".@.", "..."])
+    yield from (small[:length] for length in range(len(small)))
+    yield from (small + further for further in (b"\n", b".", b"\0", b"type octile\n"))
+    for word, others in (
+        (b"type octile", (b"type tile", b"Type octile", b"type octile ", b"type octile\r")),
+        (b"height 2", (b"height 0", b"height 02", b"height 257", b"height  2", b"height 2 ", b"width 2", b"height " + b"1" * 300)),
+        (b"width 3", (b"width 0", b"width 03", b"width 257", b"width +3", b"width 3\r", b"height 3", b"width 4294967299")),
+        (b"map", (b"Map", b"map ", b"mop", b"")),
+    ):
+        yield from (small.replace(word, other) for other in others)
+    yield from (spoiled(small, place, byte) for place in range(33, 41) for byte in (b"W", b"\n", b".", b"0", b"\xff"))
+
+
+def maps():
+    """Each with two questions, of which a refused map answers none."""
+    asked = question(0, 0, 1, 8) + question(0, 1, MARK, 4)
+    for text in [*texts_of_size(), *spoiled_texts()]:
+        yield text, asked, 16
+
+
+# ---- questions that are refused -----------------------------------------------------------------------------------------
+
+
+def refused_questions():
+    """On case a's map: each refusal alone, each pair of them, and all from one on; the lowest number wins, but 13 goes before all."""
+    good = {"start": 0, "goal": 2, "limit": 5, "ways": 8, "zeros": b"\0\0\0"}
+    spoil = {4: {"ways": 5}, 5: {"start": 6}, 6: {"goal": 77}, 7: {"start": 1}, 8: {"goal": 1}, 13: {"zeros": b"\0\1\0"}}
+    for first in spoil:
+        yield {**good, **spoil[first]}
+        yield from ({**good, **spoil[second], **spoil[first]} for second in spoil if second > first)
+        together = dict(good)
+        for number in sorted(spoil, reverse=True):
+            together.update(spoil[number] if number >= first else {})
+        yield from (together, {**together, "zeros": good["zeros"]}, {**together, "limit": 0}, {**together, "limit": MARK})
+    yield from ({**good, "ways": ways} for ways in (0, 1, 2, 3, 4, 6, 7, 8, 9, 12, 16, 72, 255))
+    yield from ({**good, end: cell} for end in ("start", "goal") for cell in (0, 1, 5, 6, 7, 255, 256, 258, 65536, 16777216, MARK))
+    yield from ({**good, "zeros": bytes(zeros)} for zeros in ([1, 0, 0], [0, 0, 1], [0, 0, 128], [128, 0, 0], [255, 255, 255], [8, 0, 0]))
+
+
+def questions_refused():
+    asked = [question(**each) for each in refused_questions()]
+    yield maptexts.text_of([".@.", "..."]), b"".join(asked), 16
+    # an answer that was refused leaves the next alone
+    yield maptexts.text_of([".@.", "..."]), b"".join(each + question(0, 2, 5, 8) for each in asked), 7
+
+
+# ---- pieces and ends ------------------------------------------------------------------------------------------------------
+
+
+def in_pieces():
+    """The same questions in pieces of every size, whole and with a broken last record; files that hold no whole record."""
+    text = maptexts.text_of([".@.", "..."])
+    asked = [question(0, 2, 5, 8), question(0, 2, 4, 8), question(1, 2, 5, 8), question(0, 2, 5, 8, b"\0\0\1"), question(3, 5, MARK, 4)]
+    whole = b"".join(asked)
+    for size in PIECES:
+        for broken in (0, 1, 8, 15):
+            yield text, whole + question(0x01020304, 0x05060708, 0x090A0B0C, 13, b"\16\17\20")[:broken], size
+        for short in (0, 1, 15, 16, 17):
+            yield text, whole[:short], size
+    # pieces that hold many records and end inside one, and one that is far longer than what is asked
+    yield text, (whole * 60)[: 300 * RECORD - 1], 1000
+    yield text, whole, MARK
+
+
+# ---- floors -----------------------------------------------------------------------------------------------------------------
+
+
+def random_floor(generator, width, height, weights, blocked):
+    return [0 if generator.random() < blocked else generator.choice(weights) for _ in range(width * height)]
+
+
+def maze(generator, width, height):
+    """Corridors of one cell between walls of one, with exactly one way between any two cells; every weight."""
+    cells = [0] * (width * height)
+    cells[0] = 1
+    way = [(0, 0)]
+    while way:
+        x, y = way[-1]
+        near = [(dx, dy) for dx, dy in ((0, -2), (2, 0), (0, 2), (-2, 0)) if 0 <= x + dx < width and 0 <= y + dy < height and cells[(y + dy) * width + x + dx] == 0]
+        if not near:
+            way.pop()
+            continue
+        dx, dy = generator.choice(near)
+        for u, v in ((x + dx // 2, y + dy // 2), (x + dx, y + dy)):
+            cells[v * width + u] = generator.randint(1, 9)
+        way.append((x + dx, y + dy))
+    return cells
+
+
+def limits_for(width, height, ways, cells, start, goal):
+    """0 and 1, those around the number of reachable cells, those around the goal's place among them, and the greatest."""
+    _, least = searches.known_costs(searches.case_of(width, height, ways, cells, start, goal, 0))
+    reached = sorted((least[cell], cell) for cell in range(len(cells)) if least[cell] is not None)
+    n = len(reached)
+    limits = {0, 1, n - 1, n, n + 1, MARK}
+    return sorted(limits | {limit for place in range(n) if reached[place][1] == goal for limit in (place, place + 1)})
+
+
+def asked_of(generator, width, height, cells, starts, goals):
+    """Questions between open cells at every limit that makes a difference, with some that are refused among them."""
+    size = width * height
+    open_cells = [cell for cell in range(size) if cells[cell]]
+    for start in generator.sample(open_cells, min(starts, len(open_cells))):
+        for goal in generator.sample(open_cells, min(goals, len(open_cells))):
+            ways = generator.choice([4, 8, 8])
+            yield from (question(start, goal, limit, ways) for limit in limits_for(width, height, ways, cells, start, goal))
+        yield question(start, generator.randrange(size + 2), generator.randint(0, size), 8)
+        yield question(generator.randrange(size + 2), start, generator.randint(0, size), generator.choice([4, 8, 8, generator.randrange(256)]))
+        zeros = bytes(generator.choice([0, 0, generator.randrange(256)]) for _ in range(3))
+        yield question(start, start, generator.randint(0, 2), 8, zeros)
+
+
+def floors(generator):
+    """Width, height, cells, and how many starts and goals are asked for."""
+    every = list(range(1, 10))
+    for _ in range(40):
+        width, height = generator.randint(1, 12), generator.randint(1, 12)
+        weights = generator.choice([[1], [9], [1, 2], [1, 9], every])
+        yield width, height, random_floor(generator, width, height, weights, generator.choice([0.0, 0.2, 0.4])), 3, 3
+    for length in (2, 17, 64):
+        for blocked in (0.0, 0.1):
+            cells = random_floor(generator, length, 1, every, blocked)
+            yield from ((length, 1, cells, 4, 3), (1, length, cells, 4, 3))
+    for width, height in ((9, 9), (31, 17), (63, 63), (64, 64)):
+        yield width, height, maze(generator, width, height), 2, 6
+    yield 24, 24, searches.winding(24, 1), 2, 6
+    yield 64, 64, searches.winding(64, 7), 1, 6
+    yield 64, 64, [1] * 4096, 1, 8
+    yield 64, 64, random_floor(generator, 64, 64, every, 0.3), 2, 6
+    yield 63, 64, random_floor(generator, 63, 64, [1, 1, 1, 9], 0.42), 2, 6
+
+
+def pictured(generator, width, height, cells):
+    """A text that reads as these cells, each by any of its characters."""
+    marks = {0: "@OT", 1: ".G1", **{weight: str(weight) for weight in range(2, 10)}}
+    return maptexts.text_of(["".join(generator.choice(marks[cell]) for cell in cells[y * width : (y + 1) * width]) for y in range(height)])
+
+
+def asked_floors():
+    generator = random.Random(16)
+    for turn, (width, height, cells, starts, goals) in enumerate(floors(generator)):
+        asked = b"".join(asked_of(generator, width, height, cells, starts, goals))
+        broken = bytes(generator.randrange(256) for _ in range(generator.choice([0, 0, 1, 15])))
+        yield pictured(generator, width, height, cells), asked + broken, PIECES[turn % len(PIECES)]
+
+
+# ---- all of it ----------------------------------------------------------------------------------------------------------------
+
+# On a larger floor only the arrivals that complete a record are made into calls: the others would be most of all that is stored.
+SMALL_FLOOR = 6
+
+
+def arrivals(records, piece, every):
+    """What the program's buffer holds at each arrival: the bytes that are not answered yet, and a piece more."""
+    tail = b""
+    for at in range(0, len(records), piece):
+        arrived = tail + records[at : at + piece]
+        tail = arrived[len(arrived) - len(arrived) % RECORD :]
+        if every or len(arrived) >= RECORD or at + piece >= len(records):
+            yield arrived
+
+
+def answer_in_place(floor, costs, work, route, text):
+    answered = answers(floor, bytes(text), costs, work, route)
+    text[: len(answered)] = answered
+    return [len(answered)]
+
+
+def add_case(made, turn, text, records, piece):
+    """The map, and the questions if it can be used, on the cells and in the rooms as the calls before left them."""
+    about = "text of %d bytes %r" % (len(text), text[:60])
+    old = wire.OLD_BYTE if turn % 5 else [turn % 256, 255, 1]
+    made.call(wire.USE_MAP, about, lambda map, text, **_: used(bytes(text), map), map=(ROOM, old), text=(len(text), text))
+    if refusal_of(text) is not None:
+        return
+    floor = width, height, cells = maptexts.read(text, ROOM)
+    size = len(cells)
+    rooms = {"costs": (size + 3, wire.OLD_COST), "work": (2 * size + 3, wire.OLD_WORK), "route": (size + 3, wire.OLD_BYTE)}
+    for arrived in arrivals(records, piece, size <= SMALL_FLOOR):
+        asked = "%s, pieces of %d, arrived %s" % (about, piece, arrived[:64].hex(" "))
+        due = lambda costs, work, route, text, **_: answer_in_place(floor, costs, work, route, text)
+        made.call(wire.ANSWER_RECORDS, asked, due, (width, height, turn), map=(size, ()), text=(len(arrived), arrived), **rooms)
+        rooms = {name: (length, ()) for name, (length, _) in rooms.items()}
+
+
+def add_calls(made):
+    cases = [*cases_of_01(), *maps(), *questions_refused(), *in_pieces(), *asked_floors()]
+    for turn, case in enumerate(cases):
+        add_case(made, turn, *case)

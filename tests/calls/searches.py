@@ -1,0 +1,397 @@
+"""Questions to the search, and what it must answer and leave.
+
+How the expectation is produced: from the text of 01 alone, as plainly as it can be written, and with nothing of the
+search's own code or method. The least costs come from relaxing every step of the map again and again, in sweeps in both
+directions, until a sweep changes nothing. L is the reachable cells, sorted by cost and cell number; answer, settled count
+and rooms are read off L. The route is walked back from the goal: of the steps that give a cell its cost the one with the
+lowest direction is the last. All cases that are not listed one by one come from a generator with a fixed seed.
+"""
+import random
+
+import wire
+
+MARK = 4294967295
+
+# number: dx, dy, unit
+DIRECTIONS = [(0, -1, 70), (1, -1, 99), (1, 0, 70), (1, 1, 99), (0, 1, 70), (-1, 1, 99), (-1, 0, 70), (-1, -1, 99)]
+
+
+# ---- the floor -----------------------------------------------------------------------------------------------------
+
+
+def allowed_step(width, height, ways, cells, cell, direction):
+    """The cell entered and the step's cost, or None where the step is not allowed."""
+    if ways == 4 and direction % 2 == 1:
+        return None
+    dx, dy, unit = DIRECTIONS[direction]
+    x, y = cell % width, cell // width
+    u, v = x + dx, y + dy
+    if not (0 <= u < width and 0 <= v < height):
+        return None
+    to = v * width + u
+    if cells[cell] == 0 or cells[to] == 0:
+        return None
+    if direction % 2 == 1 and (cells[y * width + u] == 0 or cells[v * width + x] == 0):
+        return None
+    return to, unit * cells[to]
+
+
+def steps_of(width, height, ways, cells):
+    """For each cell its allowed steps: direction, cell entered, cost."""
+    table = []
+    for cell in range(len(cells)):
+        steps = []
+        for direction in range(8):
+            step = allowed_step(width, height, ways, cells, cell, direction)
+            if step is not None:
+                steps.append((direction, step[0], step[1]))
+        table.append(steps)
+    return table
+
+
+# ---- least costs, L and the first route ------------------------------------------------------------------------------
+
+
+def least_costs(table, start):
+    """None for a cell that no route reaches."""
+    costs = [None] * len(table)
+    costs[start] = 0
+    changed = True
+    onwards = True
+    while changed:
+        changed = False
+        for cell in range(len(table)) if onwards else range(len(table) - 1, -1, -1):
+            if costs[cell] is None:
+                continue
+            for _, to, cost in table[cell]:
+                sum_ = costs[cell] + cost
+                if costs[to] is None or sum_ < costs[to]:
+                    costs[to] = sum_
+                    changed = True
+        onwards = not onwards
+    return costs
+
+
+def first_route(table, costs, start, goal):
+    """Backwards from the goal, at each cell by the lowest direction of a step that gives it its cost."""
+    into = [[] for _ in table]
+    for cell in range(len(table)):
+        for direction, to, cost in table[cell]:
+            into[to].append((direction, cell, cost))
+    backwards = []
+    cell = goal
+    while cell != start:
+        giving = [(d, came) for d, came, cost in into[cell] if costs[came] is not None and costs[came] + cost == costs[cell]]
+        direction, cell = min(giving)
+        backwards.append(direction)
+    return backwards[::-1]
+
+
+# ---- what the search must answer and leave ----------------------------------------------------------------------------
+
+
+def refusal(case):
+    """The lowest number that applies, with its place, or None."""
+    width, height, cells = case["width"], case["height"], case["cells"]
+    size = width * height
+    if not (1 <= width <= 256 and 1 <= height <= 256):
+        return 1, 0
+    if len(cells) != size:
+        return 2, 0
+    above = [cell for cell in range(size) if cells[cell] > 9]
+    if above:
+        return 3, above[0]
+    if case["ways"] not in (4, 8):
+        return 4, 0
+    if case["start"] >= size:
+        return 5, 0
+    if case["goal"] >= size:
+        return 6, 0
+    if cells[case["start"]] == 0:
+        return 7, 0
+    if cells[case["goal"]] == 0:
+        return 8, 0
+    if case["costs"] < size:
+        return 9, 0
+    if case["work"] < 2 * size:
+        return 10, 0
+    if case["route"] < size:
+        return 11, 0
+    return None
+
+
+KNOWN = {}  # several cases ask about the same map and start
+
+
+def known_costs(case):
+    name = (case["width"], case["height"], case["ways"], case["cells"], case["start"])
+    if name not in KNOWN:
+        table = steps_of(*name[:4])
+        KNOWN[name] = table, least_costs(table, case["start"])
+    return KNOWN[name]
+
+
+def answer(case, costs, work, route):
+    """Kind, refusal, place, settled, number returned and route length; alters the rooms as the search must."""
+    refused = refusal(case)
+    if refused is not None:
+        return [0, *refused, 0, 0, 0]
+    size = len(case["cells"])
+    table, least = known_costs(case)
+    reached = sorted((least[cell], cell) for cell in range(size) if least[cell] is not None)
+    limit, goal = case["limit"], case["goal"]
+    places = [place for place in range(len(reached)) if reached[place][1] == goal]
+    steps = []
+    if places and places[0] < limit:
+        steps = first_route(table, least, case["start"], goal)
+        numbers = [1, 0, 0, places[0] + 1, least[goal], len(steps)]
+    elif not places and len(reached) <= limit:
+        numbers = [2, 0, 0, len(reached), MARK, 0]
+    else:
+        numbers = [3, 0, 0, limit, reached[limit][0], 0]
+    costs[:size] = [MARK] * size
+    for cost, cell in reached[: numbers[3]]:
+        costs[cell] = cost
+    work[: 2 * size] = [0] * (2 * size)
+    route[: len(steps)] = steps
+    return numbers
+
+
+# ---- the cases --------------------------------------------------------------------------------------------------------
+
+
+def case_of(width, height, ways, weights, start, goal, limit, **changes):
+    """A case with rooms that just suffice, but for `changes`."""
+    size = width * height
+    case = {"width": width, "height": height, "ways": ways, "start": start, "goal": goal, "limit": limit}
+    case.update(costs=size, work=2 * size, route=size, cells=bytes(weights))
+    case.update(changes)
+    return case
+
+
+def drawn(picture, ways, start, goal, limit, **changes):
+    """A case whose map is drawn as 01 draws it, rows parted by /."""
+    rows = picture.split("/")
+    weights = [0 if mark == "@" else 1 if mark == "." else int(mark) for row in rows for mark in row]
+    case = case_of(len(rows[0]), len(rows), ways, weights, start, goal, limit)
+    case.update(changes)
+    return case
+
+
+def cases_of_01():
+    return [
+        drawn(".@./...", 8, 0, 2, 5),
+        drawn(".@./...", 8, 0, 2, 4),
+        drawn(".../.../...", 8, 0, 8, 9),
+        drawn(".../.../...", 4, 0, 8, 9),
+        drawn("../.9", 8, 0, 3, 4),
+        drawn(".9./...", 8, 0, 2, 6),
+        drawn(".@.", 8, 0, 2, 1),
+        drawn(".@.", 8, 0, 2, 0),
+        drawn(".", 8, 0, 0, 1),
+        drawn(".9", 8, 0, 1, 2),
+        drawn(".9", 8, 1, 0, 2),
+        drawn(".@/@.", 8, 0, 3, 4),
+    ]
+
+
+def single_refusals():
+    """Each refusal alone, and next to it what is just taken."""
+    row = [1] * 257
+    return [
+        case_of(0, 3, 8, [], 0, 0, 5),
+        case_of(3, 0, 8, [], 0, 0, 5),
+        case_of(0, 0, 8, [], 0, 0, 5),
+        case_of(257, 1, 8, row, 0, 256, 300),
+        case_of(1, 257, 8, row, 0, 256, 300),
+        case_of(MARK, MARK, 8, [], 0, 0, 5, costs=9, work=9, route=9),
+        case_of(65536, 65536, 8, [], 0, 0, 5, costs=9, work=9, route=9),
+        case_of(256, 1, 8, row[:256], 0, 255, 300),
+        case_of(1, 256, 8, row[:256], 255, 0, 300),
+        case_of(3, 2, 8, [1] * 5, 0, 2, 5),
+        case_of(3, 2, 8, [1] * 7, 0, 2, 5),
+        case_of(3, 2, 8, [], 0, 2, 5),
+        drawn(".../...", 8, 0, 2, 5, cells=bytes([1, 1, 1, 10, 1, 1])),
+        drawn(".../...", 8, 0, 2, 5, cells=bytes([1, 1, 1, 1, 1, 255])),
+        drawn(".../...", 8, 0, 2, 5, cells=bytes([46, 64, 46, 46, 46, 46])),
+        drawn(".../...", 8, 0, 2, 5, cells=bytes([9, 9, 9, 9, 9, 9])),
+        drawn(".../...", 8, 0, 2, 5, cells=bytes([9, 9, 9, 9, 255, 10])),
+    ] + [drawn(".../...", ways, 0, 2, 5) for ways in (0, 1, 2, 3, 5, 6, 7, 9, 12, 260, 264, MARK)] + later_refusals()
+
+
+def later_refusals():
+    cases = [drawn(".@./...", 8, start, 2, 5) for start in (5, 6, 7, 65536, MARK)]
+    cases += [drawn(".@./...", 8, 0, goal, 5) for goal in (5, 6, 7, 65536, MARK)]
+    cases += [drawn(".@./...", 8, 1, 2, 5), drawn(".@./...", 8, 0, 1, 5), drawn(".@./...", 8, 1, 1, 5)]
+    cases += [drawn(".@./...", 8, 0, 2, 5, costs=costs) for costs in (0, 5, 6, 7)]
+    cases += [drawn(".@./...", 8, 0, 2, 5, work=work) for work in (0, 6, 11, 12, 13)]
+    cases += [drawn(".@./...", 8, 0, 2, 5, route=route) for route in (0, 4, 5, 6, 7)]
+    return cases
+
+
+def joint_refusals():
+    """Several refusals at once: the lowest number wins. Each pair, and all from a number on."""
+    spoil = {
+        4: {"ways": 5},
+        5: {"start": 6},
+        6: {"goal": 77},
+        7: {"start": 1},
+        8: {"goal": 1},
+        9: {"costs": 5},
+        10: {"work": 11},
+        11: {"route": 5},
+    }
+    good, bad = drawn(".@./...", 8, 0, 2, 5), bytes([1, 0, 1, 12, 1, 99])
+    cases = []
+    for first in spoil:
+        cases += [{**good, **spoil[second], **spoil[first]} for second in range(first + 1, 12)]
+    for first in spoil:
+        spoiled = dict(good)
+        for number in range(11, first - 1, -1):
+            spoiled.update(spoil[number])
+        cases.append(spoiled)
+        cases.append({**spoiled, "cells": bad})
+        cases.append({**spoiled, "cells": bad[:5]})
+        cases.append({**spoiled, "cells": bad, "width": 0})
+        cases.append({**spoiled, "height": 300})
+    return cases
+
+
+def every_limit():
+    """All limits from 0 to n + 1 on small floors, with goals that are reached and that are not."""
+    asked = [
+        ("1234/5@67/8912", 0, [0, 7, 11]),
+        ("...@./...@./9.2@./..1@.", 6, [0, 17, 4, 19]),
+        (".@.@/@.@./.@.@", 0, [0, 2, 5]),
+        ("123456789", 4, [0, 8, 4]),
+        ("1/9/2/8/@/3", 1, [0, 3, 5]),
+        ("...../...../...../.....", 7, [0, 19, 7, 12]),
+    ]
+    cases = []
+    for picture, start, goals in asked:
+        size = len(picture.replace("/", ""))
+        for goal in goals:
+            for ways in (4, 8):
+                cases += [drawn(picture, ways, start, goal, limit) for limit in range(size + 2)]
+    return cases
+
+
+def longer_rooms():
+    cases = []
+    for limit in (0, 3, 4, 5, MARK):
+        for ways in (4, 8):
+            cases.append(drawn(".@./...", ways, 0, 2, limit, costs=11, work=19, route=23))
+            cases.append(drawn("..@./.9@.", ways, 0, 3, limit, costs=9, work=17, route=9))
+            cases.append(drawn("5", ways, 0, 0, limit, costs=66000, work=132000, route=66000))
+    return cases
+
+
+def rows_and_columns():
+    generator = random.Random(4)
+    cases = []
+    for length in (2, 3, 7, 40, 255, 256):
+        cells = [generator.choice([1, 1, 2, 5, 9]) for _ in range(length)]
+        gap = cells[:]
+        gap[length // 2] = 0
+        for line in (cells, gap):
+            for start, goal in ((0, length - 1), (length - 1, 0), (0, 0)):
+                if line[start] == 0 or line[goal] == 0:
+                    continue
+                for limit in (0, 1, length // 2, length, MARK):
+                    ways = generator.choice([4, 8])
+                    cases.append(case_of(length, 1, ways, line, start, goal, limit))
+                    cases.append(case_of(1, length, ways, line, start, goal, limit))
+    return cases
+
+
+def equal_costs():
+    """Many cells of the same cost in one band: at the cut the cell's number decides."""
+    cases = []
+    side = 15
+    middle = side * side // 2
+    for ways in (4, 8):
+        for limit in list(range(0, 30)) + list(range(30, 227, 7)) + [224, 225, 226]:
+            cases.append(case_of(side, side, ways, [1] * (side * side), middle, side * side - 1, limit))
+    # all cells around the start enter at the same cost, whatever their direction
+    ring = [2, 1, 2, 1, 1, 1, 2, 1, 2]
+    for weights in (ring, [9] * 9, [7, 9, 7, 9, 1, 9, 7, 9, 7]):
+        for ways in (4, 8):
+            for goal in range(9):
+                cases += [case_of(3, 3, ways, weights, 4, goal, limit) for limit in (1, 4, 5, 6, 8, 9)]
+    return cases
+
+
+def random_floors(generator, count):
+    cases = []
+    for _ in range(count):
+        width, height = generator.randint(1, 9), generator.randint(1, 9)
+        size = width * height
+        weights = generator.choice([[1], [9], [1, 2], [1, 9], [6, 7, 8, 9], list(range(1, 10))])
+        blocked = generator.choice([0.0, 0.1, 0.3, 0.5])
+        cells = [0 if generator.random() < blocked else generator.choice(weights) for _ in range(size)]
+        start, goal = generator.randrange(size), generator.randrange(size)
+        if generator.random() < 0.95:
+            cells[start] = cells[start] or 1
+            cells[goal] = cells[goal] or 3
+        limit = generator.choice([generator.randint(0, size + 1), generator.randint(0, size + 1), size, MARK])
+        more = generator.choice([0, 0, 0, 3])
+        ways = generator.choice([4, 8])
+        cases.append(
+            case_of(width, height, ways, cells, start, goal, limit, costs=size + more, work=2 * size + more, route=size + more)
+        )
+    return cases
+
+
+def winding(side, thick):
+    """One corridor that winds from the top to the bottom, `thick` cells wide; each of its stretches has its own weight."""
+    cells = [1 + cell // side // (thick + 1) % 9 for cell in range(side * side)]
+    for wall, y in enumerate(range(thick, side - 1, thick + 1)):
+        for x in range(side):
+            if x != (side - 1 if wall % 2 == 0 else 0):
+                cells[y * side + x] = 0
+    return cells
+
+
+def large_floors():
+    generator = random.Random(256)
+    side, size = 256, 65536
+    patchy = [0 if generator.random() < 1 / 3 else generator.randint(1, 9) for _ in range(size)]
+    middle = 128 * side + 128
+    for cell in (0, middle, size - 1):
+        patchy[cell] = 1
+    limits = (1, 1000, 65536, MARK)
+    cases = [case_of(side, side, 8, [1] * size, middle, size - 1, limit) for limit in limits]
+    cases += [case_of(side, side, 8, [9] * size, 0, size - 1, limit) for limit in limits]
+    for limit, goal in zip(limits, (0, size - 1, 0, size - 1)):
+        cases.append(case_of(side, side, 8, patchy, middle, goal, limit))
+    cases.append(case_of(side, side, 4, patchy, middle, size - 1, 40000))
+    cases.append(case_of(side, side, 4, [9] * size, 0, size - 1, 65535))
+    walled = winding(side, 15)
+    cases.append(case_of(side, side, 8, walled, 0, size - side, MARK, costs=66000, work=132000, route=66000))
+    walled[15 * side + side - 1] = 0
+    cases.append(case_of(side, side, 8, walled, 0, size - side, 65536))
+    return cases
+
+
+def all_cases():
+    cases = cases_of_01() + single_refusals() + joint_refusals() + every_limit() + longer_rooms() + rows_and_columns()
+    cases += equal_costs() + random_floors(random.Random(20), 400) + large_floors()
+    return cases
+
+
+def given(cells):
+    """A map as a call gives it: of one that is all alike a single cell."""
+    return cells[:1] if len(set(cells)) == 1 else cells
+
+
+def add_calls(made):
+    """Each question is asked of the search, and then, on the map that is in its room, of the search for C."""
+    for turn, case in enumerate(all_cases()):
+        about = ", ".join("%s %d" % (name, value) for name, value in case.items() if name != "cells") + ", cells %r" % case["cells"][:100]
+        old = (wire.OLD_COST, wire.OLD_WORK, wire.OLD_BYTE) if turn % 5 else ([turn, MARK, 0], [MARK, turn], [turn % 256, 9, 255])
+        rooms = {name: (case[name], before) for name, before in zip(("costs", "work", "route"), old)}
+        asked = {"floor": (case["width"], case["height"], case["ways"]), "start": case["start"], "goal": case["goal"], "limit": case["limit"], **rooms}
+        size = len(case["cells"])
+        due = lambda costs, work, route, **_: answer(case, costs, work, route)
+        made.call(wire.SEARCH, about, due, map=(size, given(case["cells"])), **asked)
+        made.call(wire.C_SEARCH, about, due, map=(size, ()), **asked)

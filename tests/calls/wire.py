@@ -1,0 +1,80 @@
+"""The protocol of the program `calls` (crates/calls/src/main.rt): calls as bytes, and the replies that are due.
+
+The rooms are kept here as they are in the program: a room that a call gives nothing for is as the call before left it.
+"""
+import struct
+import zlib
+from collections import Counter
+
+SEARCH, CHECK_ROUTE, CHECK_TABLE, READ_MAP, WRITE_MAP, JUDGE_MAP, C_CHECK_ROUTE, C_SEARCH, USE_MAP, ANSWER_RECORDS = range(1, 11)
+ENTRIES = {
+    SEARCH: "search", CHECK_ROUTE: "check_route", CHECK_TABLE: "check_table", READ_MAP: "read_map", WRITE_MAP: "write_map", JUDGE_MAP: "judge_map",
+    C_CHECK_ROUTE: "fradnumber_check_route", C_SEARCH: "fradnumber_search", USE_MAP: "use_map", ANSWER_RECORDS: "answer_records",
+}
+READING, SEARCHING = ("refused", "read"), ("refused", "found", "none", "stopped")
+# What the first number of a reply says, where it is a kind; the second is then the refusal or the fault.
+WORDS = {
+    SEARCH: SEARCHING, C_SEARCH: SEARCHING, READ_MAP: READING, JUDGE_MAP: READING, USE_MAP: READING,
+    CHECK_ROUTE: ("refused", "holds", "fault"), CHECK_TABLE: ("refused", "right", "breaks"), WRITE_MAP: ("refused", "written"),
+}
+WHOLE, DIGEST = 0, 1
+ROOMS = ("map", "costs", "work", "route", "text")
+LENGTHS = {"map": 66000, "costs": 66000, "work": 132000, "route": 66000, "text": 66000}
+NUMBERS = ("costs", "work")
+
+# What a room holds before a call, unless a case says otherwise.
+OLD_COST, OLD_WORK, OLD_BYTE = [123456789], [987654321], [200]
+
+# A longer reply is asked for as a digest: the rooms of the greatest floor are near a megabyte.
+LONGEST_WHOLE = 300
+
+
+def packed(entries, name=None):
+    """Numbers of four bytes, the lowest first; the rooms of bytes as they are."""
+    return bytes(entries) if name and name not in NUMBERS else struct.pack("<%dI" % len(entries), *entries)
+
+
+def outcome(what, numbers):
+    """The kind of an answer in words, with the number of a refusal or a fault."""
+    if what not in WORDS:
+        return "answered"
+    return WORDS[what][numbers[0]] + (" %d" % numbers[1] if numbers[1] else "")
+
+
+def digest(reply):
+    return packed([len(reply), zlib.adler32(reply)])
+
+
+class Wire:
+    """The calls made so far with their replies, and what is in the program's rooms after them."""
+
+    def __init__(self):
+        self.rooms = {name: [0] * length for name, length in LENGTHS.items()}
+        self.made = []  # what a call is, the call, its reply
+        self.outcomes = {name: Counter() for name in ENTRIES.values()}
+
+    def call(self, what, about, answer, floor=(0, 0, 0), start=0, goal=0, limit=0, **rooms):
+        """Adds a call. A room is its length and what is given; `answer` gets the rooms, alters them as the entry must, and gives the numbers that the
+        reply begins with."""
+        lengths, bodies, lent = [], [], {}
+        for name in ROOMS:
+            length, given = rooms.pop(name, (0, ()))
+            given = given[:length]
+            room = self.rooms[name]
+            if given:
+                room[:length] = (list(given) * (length // len(given) + 1))[:length]
+            lengths += [length, len(given)]
+            bodies.append(packed(given, name))
+            lent[name] = room[:length]
+        assert not rooms, rooms
+        numbers = answer(**lent)
+        reply = packed([*numbers, *[0] * (6 - len(numbers))])
+        for name in ROOMS:
+            assert len(lent[name]) == lengths[2 * ROOMS.index(name)]
+            self.rooms[name][: len(lent[name])] = lent[name]
+            reply += packed(lent[name], name)
+        form = WHOLE if len(reply) <= LONGEST_WHOLE else DIGEST
+        head = packed([what, form, *floor, start, goal, limit, *lengths])
+        self.outcomes[ENTRIES[what]][outcome(what, numbers)] += 1
+        self.made.append((f"{ENTRIES[what]}: {about}", head + b"".join(bodies), reply if form == WHOLE else digest(reply)))
+        return numbers
