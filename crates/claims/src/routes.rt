@@ -16,7 +16,7 @@ use floor::Step;
 fn screen_claim(f: Floor, map: &[u8], start: u32, goal: u32, cost: u32, route: &[u8]) -> Screen
     ensures { λ r. ⌜ r ≡ screen (claimLines f (now (map .entry)) (claim start goal cost (now (route .entry)))) ⌝ }
 {
-    let question = floor::refusals::screen_question(f, map, start as usize, goal as usize);
+    let question = screens::screen_question(f, map, start as usize, goal as usize);
     match question {
         Screen::Refused(number, place) => Screen::Refused(number, place),
         Screen::Passed => {

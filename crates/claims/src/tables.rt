@@ -14,7 +14,7 @@ use floor::Screen;
 fn screen_table(f: Floor, map: &[u8], start: u32, costs: &[u32]) -> Screen
     ensures { λ r. ⌜ r ≡ screen (tableLines f (now (map .entry)) start (now (costs .entry))) ⌝ }
 {
-    let question = floor::refusals::screen_question(f, map, start as usize, start as usize);
+    let question = screens::screen_question(f, map, start as usize, start as usize);
     match question {
         Screen::Refused(number, place) => Screen::Refused(number, place),
         Screen::Passed => {

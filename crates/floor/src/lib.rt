@@ -1,7 +1,6 @@
-// The floor: the value that travels beside a map's bytes, the table of directions, the step test and the refusals 1 to 8.
+// The floor: the value that travels beside a map's bytes, the table of directions and the step test; what of a floor is refused, and when a question has passed.
 // specs/ says what they mean; docs/PROMISES.md has a row for each public function.
 
-pub mod refusals; // refusals.rt: what is refused of a floor and its bytes
 pub mod steps; // steps.rt: the step test
 
 // 01: width and height are 1 to 256 each.
@@ -10,7 +9,7 @@ pub const GREATEST_SIDE: usize = 256;
 // 01: 0 blocked, 1 to 9 the weight of an open cell.
 pub const GREATEST_WEIGHT: u8 = 9;
 
-// A map's width, height and ways travel together as one value. Any numbers may stand in it: `refusals` judges them.
+// A map's width, height and ways travel together as one value. Any numbers may stand in it: the crate `screens` judges them.
 pub struct Floor {
     pub width: usize,
     pub height: usize,

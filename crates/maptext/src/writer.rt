@@ -12,7 +12,7 @@ use crate::Written;
 use crate::chars::char_of;
 use floor::Floor;
 use floor::Screen;
-use floor::refusals::screen_map;
+use screens::screen_map;
 use textlines::lines::put;
 use textlines::lines::put_side_line;
 use textlines::lines::side_line_length;

@@ -27,7 +27,7 @@ fn screen_search(
 ) -> Screen
     ensures { λ r. ⌜ r ≡ screen (lengthLines f (now (map .entry)) start goal costs work route) ⌝ }
 {
-    let question = floor::refusals::screen_question(f, map, start, goal);
+    let question = screens::screen_question(f, map, start, goal);
     match question {
         Screen::Refused(number, place) => Screen::Refused(number, place),
         Screen::Passed => {

@@ -1,12 +1,12 @@
-// The refusals 1 to 4 of a floor and its bytes: 01, "Refusal numbers".
+// The refusals that entries share: 1 to 3 of a map, 4 of its ways, 5 to 8 of a start and a goal. 01, "Refusal numbers"; floor/specs/Refusal.antt says when each applies.
 ghost use mathlib.Core.Path.{_≡_};
 ghost use Prim.Native.Nat.{_*_};
 ghost use Rattle.floor.specs.Place.{isSide, hasSides};
 ghost use Rattle.floor.specs.Refusal.{HasPassed, screen, mapLines, floorLines, endsLines, questionLines, firstAbove};
-use crate::Floor;
-use crate::GREATEST_SIDE;
-use crate::GREATEST_WEIGHT;
-use crate::Screen;
+use floor::Floor;
+use floor::GREATEST_SIDE;
+use floor::GREATEST_WEIGHT;
+use floor::Screen;
 
 fn is_side(n: usize) -> bool
     ensures { λ r. ⌜ r ≡ isSide n ⌝ }

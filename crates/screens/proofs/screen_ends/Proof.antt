@@ -1,9 +1,9 @@
 -- Each return decides one of the lines of `endsLines`, in their order. The map has passed, so that its length is width × height and far from wrapping.
 use native.Mathlib.Omega.{arith}
 use borrow.Author.Tests.{lt-ltb, le-ltb, eq-eqb, ne-eqb}
 use Rattle.floor.proofs.Passing.{MapFacts, facts, few-cells}
-use Rattle.floor.proofs.refusals.screen_ends.Statement.{statement}
-use Rattle.floor.proofs.refusals.screen_ends.Tie as tie
+use Rattle.screens.proofs.screen_ends.Statement.{statement}
+use Rattle.screens.proofs.screen_ends.Tie as tie
 
 passed : (c : tie.Start) → MapFacts (c .args .f) (c .args .map .now)
 passed c = facts (c .args .f) (c .args .map .now) (c .pre) .map

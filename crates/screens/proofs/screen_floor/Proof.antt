@@ -3,10 +3,10 @@ use mathlib.Core.Path.{_≡_}
 use mathlib.Core.List.{[], _∷_}
 use borrow.Author.Needs.{needs}
 use borrow.Author.Tests.{eq-eqb, ne-eqb}
 use Rattle.floor.specs.Refusal.{screen, mapLines, waysLine, floorLines}
 use Rattle.floor.proofs.Screens.{screen-after}
-use Rattle.floor.proofs.refusals.screen_floor.Statement.{statement}
-use Rattle.floor.proofs.refusals.screen_floor.Tie as tie
+use Rattle.screens.proofs.screen_floor.Statement.{statement}
+use Rattle.screens.proofs.screen_floor.Tie as tie
 
 screen-map-requires : tie.Need-screen-map-requires
 screen-map-requires c κs = search needs

@@ -1,9 +1,9 @@
 -- Each return decides one of the two tests of `isSide`, in their order.
 use native.Mathlib.Omega.{arith}
 use borrow.Author.Tests.{lt-ltb}
 use Rattle.floor.specs.Place.{isSide}
-use Rattle.floor.proofs.refusals.is_side.Statement.{statement}
-use Rattle.floor.proofs.refusals.is_side.Tie as tie
+use Rattle.screens.proofs.is_side.Statement.{statement}
+use Rattle.screens.proofs.is_side.Tie as tie
 
 returns : tie.Need-returns
 unfolding isSide

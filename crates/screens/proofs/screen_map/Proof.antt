@@ -5,11 +5,11 @@ use native.Mathlib.Nat.{mul-le-mul}
 use native.Mathlib.Omega.{arith}
 use borrow.Author.Needs.{needs}
 use borrow.Author.Tests.{lt-ltb, le-ltb, eq-eqb, ne-eqb}
 use Rattle.floor.specs.Place.{hasSides}
 use Rattle.paths.proofs.Bools.{true-T}
 use Rattle.floor.proofs.Passing.{sides}
-use Rattle.floor.proofs.refusals.screen_map.Statement.{statement}
-use Rattle.floor.proofs.refusals.screen_map.Tie as tie
+use Rattle.screens.proofs.screen_map.Statement.{statement}
+use Rattle.screens.proofs.screen_map.Tie as tie
 
 has-sides-requires : tie.Need-has-sides-requires
 has-sides-requires c κs = search needs

@@ -1,10 +1,10 @@
 -- What `screen_floor` found stands, and after `Passed` the lines of the two ends are left, which `screen_ends` tries.
 use mathlib.Core.Path.{sym, _∙_}
 use borrow.Author.Needs.{needs}
 use Rattle.floor.specs.Refusal.{floorLines, endsLines}
 use Rattle.floor.proofs.Screens.{screen-after}
-use Rattle.floor.proofs.refusals.screen_question.Statement.{statement}
-use Rattle.floor.proofs.refusals.screen_question.Tie as tie
+use Rattle.screens.proofs.screen_question.Statement.{statement}
+use Rattle.screens.proofs.screen_question.Tie as tie
 
 screen-floor-requires : tie.Need-screen-floor-requires
 screen-floor-requires c κs = search needs

@@ -8,11 +8,11 @@ use native.Mathlib.Omega.{arith}
 use lib.Dec.{ltb, ltb→lt, lt→ltb}
 use lib.ListN.{length, getD}
 use Rattle.paths.specs.Below.{lowest}
 use Rattle.floor.specs.Place.{greatestWeight}
 use Rattle.floor.specs.Refusal.{firstAbove}
 use Rattle.paths.proofs.Below.{lowest-next, lowest-found}
-use Rattle.floor.proofs.refusals.first_above.Statement.{statement}
-use Rattle.floor.proofs.refusals.first_above.Tie as tie
+use Rattle.screens.proofs.first_above.Statement.{statement}
+use Rattle.screens.proofs.first_above.Tie as tie
 
 abbrev above : List ℕ → ℕ → Bool
 above m v = ltb greatestWeight (getD m v 0)

@@ -1,9 +1,9 @@
 -- The first call decides the first test of `hasSides`, and the second call is the second test.
 use mathlib.Core.Path.{sym, _∙_}
 use borrow.Author.Needs.{needs}
 use Rattle.floor.specs.Place.{hasSides}
-use Rattle.floor.proofs.refusals.has_sides.Statement.{statement}
-use Rattle.floor.proofs.refusals.has_sides.Tie as tie
+use Rattle.screens.proofs.has_sides.Statement.{statement}
+use Rattle.screens.proofs.has_sides.Tie as tie
 
 is-side-requires : tie.Need-is-side-requires
 is-side-requires c κs = search needs
