@@ -36,6 +36,10 @@ Answered f m (suc n) bytes r bytes′ r′ = AnsweredFirst f m (Answered f m n) 
 abbrev pub wholeRecords : List ℕ → ℕ
 wholeRecords bytes = length bytes / recordSize
 
+-- the record at place i of a buffer, counted from 0
+abbrev pub recordAt : ℕ → List ℕ → List ℕ
+recordAt i bytes = take recordSize (drop (i * recordSize) bytes)
+
 -- the promise: every whole record is answered, a broken last one is not; n is the number of bytes that are answers now
 pub record IsAnswered (f : Floor) (m bytes : List ℕ) (r : Rooms) (n : ℕ) (bytes′ : List ℕ) (r′ : Rooms) : Type 0 where
   pub bytes-answered : n ≡ wholeRecords bytes * recordSize

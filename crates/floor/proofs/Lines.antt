@@ -18,7 +18,7 @@ rising b [] = true
 rising b (l ∷ ls) = ltb b (l .number) && rising (l .number) ls
 
 -- a line of a list that rises from above b is above b
-above : (b : ℕ) (ls : List Line) → T (rising b ls) → (k : Line) → Has k ls → b < k .number
+pub above : (b : ℕ) (ls : List Line) → T (rising b ls) → (k : Line) → Has k ls → b < k .number
 above b [] r k h = absurd h
 above b (l ∷ ls) r k h =
     let s = T-and (ltb b (l .number)) (rising (l .number) ls) r in
@@ -28,6 +28,21 @@ above b (l ∷ ls) r k h =
     go : b < l .number → (Has k ls → l .number < k .number) → (k ≡ l) ⊎ Has k ls → b < k .number
     go c later (inl e) = rw e c
     go c later (inr i) = omega (arith, later i)
+
+-- every number of the list is below b
+abbrev pub allBelow : ℕ → List Line → Bool
+allBelow b [] = true
+allBelow b (l ∷ ls) = ltb (l .number) b && allBelow b ls
+
+pub below : (b : ℕ) (ls : List Line) → T (allBelow b ls) → (k : Line) → Has k ls → k .number < b
+below b [] r k h = absurd h
+below b (l ∷ ls) r k h =
+    let s = T-and (ltb (l .number) b) (allBelow b ls) r in
+    go (ltb→lt (l .number) b (s .0)) (below b ls (s .1) k) h
+  where
+    go : l .number < b → (Has k ls → k .number < b) → (k ≡ l) ⊎ Has k ls → k .number < b
+    go c later (inl e) = rw e c
+    go c later (inr i) = later i
 
 -- the line at the head of a list, by whether it is to be given
 module _ (l : Line) (ls : List Line) (later : (k : Line) → Has k ls → l .number < k .number) (n p : ℕ)

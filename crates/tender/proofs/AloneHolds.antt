@@ -11,27 +11,14 @@ use Rattle.floor.specs.declared.Floor.{Floor}
 use Rattle.search.specs.declared.Answer.{Answer}
 use Rattle.search.specs.Search.{Rooms}
 use Rattle.desk.specs.Record.{recordSize, questionIn, waysIn, endsInZeros, recordOf}
-use Rattle.desk.specs.Desk.{withWays, Asked, no-zeros, searched, Answered, wholeRecords, IsAnswered}
+use Rattle.desk.specs.Desk.{withWays, Asked, no-zeros, searched, Answered, wholeRecords, recordAt, IsAnswered}
 use Rattle.desk.proofs.Buffers.{record-length}
 use Rattle.tender.specs.SearchTable.{SameLengths}
-use Rattle.tender.specs.Alone.{recordAt, AsIfAlone}
-use Rattle.tender.proofs.Searches.{a-search, search-lengths, same-answer, same-written}
-
-same-length : {r : Rooms} → SameLengths r r
-same-length = record { costs = refl; work = refl; route = refl }
-
--- rooms that have the lengths of the same rooms
-alike : {r p s : Rooms} → SameLengths r p → SameLengths r s → SameLengths p s
-alike a b = record { costs = b .costs ∙ sym (a .costs); work = b .work ∙ sym (a .work); route = b .route ∙ sym (a .route) }
-
-further : {r p s : Rooms} → SameLengths r p → SameLengths p s → SameLengths r s
-further a b = record { costs = b .costs ∙ a .costs; work = b .work ∙ a .work; route = b .route ∙ a .route }
+use Rattle.tender.specs.Alone.{AsIfAlone}
+use Rattle.tender.proofs.Searches.{a-search, same-answer, same-written}
+use Rattle.tender.proofs.Records.{alike, answered-each, rest-stays}
 
 module _ (f : Floor) (m : List ℕ) where
-  asked-lengths : {question : List ℕ} {r : Rooms} {a : Answer} {r′ : Rooms} → Asked f m question r a r′ → SameLengths r r′
-  asked-lengths (no-zeros z e l) = rw l same-length
-  asked-lengths (searched z x) = search-lengths x
-
   -- one question in rooms that differ
   same-asked : {question : List ℕ} {r p : Rooms} {a b : Answer} {r′ p′ : Rooms} → SameLengths r p → Asked f m question r a r′ → Asked f m question p b p′ → a ≡ b
   same-asked s (no-zeros z e l) (no-zeros z′ e′ l′) = e ∙ sym e′
@@ -46,52 +33,6 @@ module _ (f : Floor) (m : List ℕ) where
       go : (b : Bool) → endsInZeros question ≡ b → (a : Answer) × (r′ : Rooms) × Asked f m question r a r′
       go false e = (Answer.Refused 13 0, r, no-zeros e refl refl)
       go true e = let x = a-search (withWays f (waysIn question)) m (questionIn question) r in (x .0, x .1, searched e (x .2))
-
-  -- a question that has been answered in rooms of the lengths of r
-  record AnsweredIn (r : Rooms) (question out : List ℕ) : Type 0 where
-    rooms : Rooms
-    lengths : SameLengths r rooms
-    answer : Answer
-    left : Rooms
-    asked : Asked f m question rooms answer left
-    leaves : out ≡ recordOf answer
-
-  -- in a buffer the first record lies apart from the others
-  drop-first : (k : ℕ) (bytes : List ℕ) → drop (suc k * recordSize) bytes ≡ drop (k * recordSize) (drop recordSize bytes)
-  drop-first k bytes = let e : suc k * recordSize ≡ recordSize + k * recordSize = omega arith in rw e (sym (drop-drop (k * recordSize) recordSize bytes))
-
-  behind-answer : (k : ℕ) (a : Answer) (rest bytes′ : List ℕ) → bytes′ ≡ recordOf a ++ rest → drop (suc k * recordSize) bytes′ ≡ drop (k * recordSize) rest
-  behind-answer k a rest bytes′ e =
-      drop-first k bytes′ ∙ ap (drop (k * recordSize)) (ap (drop recordSize) e ∙ drop-at (recordOf a) rest recordSize (record-length a))
-
-  answered-each : (n : ℕ) (bytes : List ℕ) (r : Rooms) (bytes′ : List ℕ) (r′ : Rooms) → Answered f m n bytes r bytes′ r′
-      → (i : ℕ) → i < n → AnsweredIn r (recordAt i bytes) (recordAt i bytes′)
-  answered-each zero bytes r bytes′ r′ x i h = absurd (omega arith)
-  answered-each (suc n) bytes r bytes′ r′ x zero h = record {
-    rooms = r;
-    lengths = same-length;
-    answer = x .answer;
-    left = x .between;
-    asked = x .asked;
-    leaves = ap (take recordSize) (x .leaves) ∙ take-at (recordOf (x .answer)) (x .rest) recordSize (record-length (x .answer));
-  }
-  answered-each (suc n) bytes r bytes′ r′ x (suc i) h =
-      let ih = answered-each n (drop recordSize bytes) (x .between) (x .rest) r′ (x .others) i (omega arith) in
-      record {
-        rooms = ih .rooms;
-        lengths = further (asked-lengths (x .asked)) (ih .lengths);
-        answer = ih .answer;
-        left = ih .left;
-        asked = rw (drop-first i bytes) (ih .asked);
-        leaves = ap (take recordSize) (behind-answer i (x .answer) (x .rest) bytes′ (x .leaves)) ∙ ih .leaves;
-      }
-
-  rest-stays : (n : ℕ) (bytes : List ℕ) (r : Rooms) (bytes′ : List ℕ) (r′ : Rooms) → Answered f m n bytes r bytes′ r′
-      → drop (n * recordSize) bytes′ ≡ drop (n * recordSize) bytes
-  rest-stays zero bytes r bytes′ r′ x = ap (drop (zero * recordSize)) (x .0)
-  rest-stays (suc n) bytes r bytes′ r′ x =
-      behind-answer n (x .answer) (x .rest) bytes′ (x .leaves)
-      ∙ rest-stays n (drop recordSize bytes) (x .between) (x .rest) r′ (x .others) ∙ sym (drop-first n bytes)
 
   -- a buffer of one record
   only-record : (question : List ℕ) (p : Rooms) (a : Answer) (p′ : Rooms) (out : List ℕ) → length question ≡ recordSize → Asked f m question p a p′
@@ -119,7 +60,7 @@ module _ (f : Floor) (m : List ℕ) where
   as-alone : (bytes : List ℕ) (r : Rooms) (n : ℕ) (bytes′ : List ℕ) (r′ : Rooms) → IsAnswered f m bytes r n bytes′ r′ → (p : Rooms) → SameLengths r p
       → (i : ℕ) → i < wholeRecords bytes → (p′ : Rooms) × IsAnswered f m (recordAt i bytes) p recordSize (recordAt i bytes′) p′
   as-alone bytes r n bytes′ r′ x p same i h =
-      let here = answered-each (wholeRecords bytes) bytes r bytes′ r′ (x .records) i h in
+      let here = answered-each f m (wholeRecords bytes) bytes r bytes′ r′ (x .records) i h in
       let again = an-answer (recordAt i bytes) p in
       let e = same-asked (alike (here .lengths) same) (here .asked) (again .2) in
       (again .1, only-record (recordAt i bytes) p (again .0) (again .1) (recordAt i bytes′) (record-size bytes i h) (again .2) (here .leaves ∙ ap recordOf e))

@@ -1,36 +1,46 @@
 -- The first condition: every entry's promise begins with its lines, and an answer that is a refusal comes from them.
 use mathlib.Core.Path.{_≡_, refl, sym, ap, _∙_}
-use mathlib.Core.Logic.{_↔_, Iff·trans}
+use mathlib.Core.Logic.{_↔_, Iff·trans, inl, ⊎-elim}
+use mathlib.Core.Bool.{true}
 use mathlib.Core.List.{List, [], _∷_}
-use Prim.Native.Nat.{ℕ}
+use Prim.Native.Nat.{ℕ, _≤_, _<_}
 use native.Mathlib.Omega.{arith}
 use lib.Dec.{T}
-use lib.ListN.{length}
+use lib.ListN.{length, getD}
+use Rattle.paths.specs.Graph.{MARK}
 use Rattle.settling.specs.Answer as row
 use Rattle.settling.specs.Answer.{Kind}
 use Rattle.floor.specs.declared.Floor.{Floor}
 use Rattle.floor.specs.declared.Screen.{Screen}
 use Rattle.floor.specs.declared.Screen.the-variants.{Passed, Refused}
-use Rattle.floor.specs.Refusal.{Line, screen, mapLines, floorLines, questionLines}
+use Rattle.floor.specs.Refusal.{Line, line, screen, mapLines, floorLines, questionLines}
 use Rattle.floor.specs.LowestLine.{IsLowestLine}
 use Rattle.floor.specs.Numbers.{Numbers, refused, fault, gives, afterScreen, numbersOf}
-use Rattle.floor.proofs.Lines.{rising, lowest-line, refused-lines, by-lines}
+use Rattle.floor.proofs.Lines.{rising, above, below, lowest-line, refused-lines, by-lines}
 use Rattle.maptext.specs.declared.Written.{Written}
 use Rattle.maptext.specs.Text as text
 use Rattle.maptext.specs.Text.{textOf, writeLines, textLeft, IsWritten}
 use Rattle.maptext.proofs.Texts.{writtenOf, written-is}
 use Rattle.claims.specs.Route as route
-use Rattle.claims.specs.Route.{claimLines}
+use Rattle.claims.specs.Route.{Claim, claimLines, routeVerdict, packed}
+use Rattle.claims.specs.Faults.{stepFaults, endFaults, standsAt, IsFault, of-step, of-end}
 use Rattle.claims.specs.Table as table
 use Rattle.claims.specs.Table.{tableLines}
 use Rattle.claims.proofs.Claims.{routeOf, route-back, tableOf, table-back, route-refused-exactly, table-refused-exactly}
+use Rattle.claims.proofs.Faults.{fault-exactly}
+use Rattle.claims.proofs.Collecting.{told-exactly}
 use Rattle.search.specs.declared.Answer.{Answer}
-use Rattle.search.specs.Search.{Question, Rooms, searchLines, rowOf, answered, Searched, refused, passed}
+use Rattle.search.specs.declared.Answer.the-variants.{Found, None, Stopped}
+use Rattle.search.specs.declared.AnswerNumbers.{AnswerNumbers}
+use Rattle.search.specs.Search as answer
+use Rattle.search.specs.Search.{Question, Rooms, searchLines, rowOf, answered, Searched, refused, passed, Called}
 use Rattle.search.proofs.Promise.{by-refusal}
-use Rattle.desk.specs.Record.{questionIn, waysIn}
-use Rattle.desk.specs.Desk.{withWays, Asked, no-zeros, searched}
-use Rattle.tender.specs.FirstCondition.{Refuses, IsRefusable, zeros-missing, not-searched, FirstCondition}
-use Rattle.tender.proofs.Unread.{reader-refuses, program-refuses}
+use Rattle.desk.specs.Record.{questionIn, waysIn, recordOf}
+use Rattle.desk.specs.Desk.{withWays, Asked, no-zeros, searched, wholeRecords, recordAt, IsAnswered}
+use Rattle.tender.specs.SearchTable.{SameLengths}
+use Rattle.tender.specs.FirstCondition.{Refuses, SaysRefused, IsRefusable, zeros-missing, not-searched, FirstCondition}
+use Rattle.tender.proofs.Unread.{reader-refuses, judge-refuses, program-refuses}
+use Rattle.tender.proofs.Records.{same-length, alike, answered-each}
 
 -- an answer that is a row of 01's table is no refusal
 row-no-refusal : (k : Kind) (w : row.Answer) (n p : ℕ) → answered k w ≡ Answer.Refused n p → ⊥
@@ -113,10 +123,73 @@ question-refuses f m question r a r′ (searched z x) =
     to s n p (zeros-missing y f g) = let z : _≡_ {A = ℕ} 0 1 = cc in absurd (omega arith)
     to s n p (not-searched y x) = s .exactly n p .1 x
 
+-- the numbers of an answer are those of a refusal exactly when it is that refusal
+refusal-numbers : (a : Answer) (n p : ℕ) → answer.numbersOf a ≡ answer.numbersOf (Answer.Refused n p) → a ≡ Answer.Refused n p
+refusal-numbers (Answer.Refused i j) n p e =
+    let number : i ≡ n = ap (λ (x : AnswerNumbers). x .refusal) e in let place : j ≡ p = ap (λ (x : AnswerNumbers). x .place) e in rw (number, place)
+refusal-numbers (Found s c l) n p e = absurd (omega (arith, ap (λ (x : AnswerNumbers). x .kind) e))
+refusal-numbers (None s) n p e = absurd (omega (arith, ap (λ (x : AnswerNumbers). x .kind) e))
+refusal-numbers (Stopped s c) n p e = absurd (omega (arith, ap (λ (x : AnswerNumbers). x .kind) e))
+
+call-refuses : (f : Floor) (m : List ℕ) (q : Question) (r : Rooms) (x : AnswerNumbers) (r′ : Rooms) → Called f m q r x r′
+    → Refuses (IsLowestLine (searchLines f m q r)) (λ n p. x ≡ answer.numbersOf (Answer.Refused n p)) (r′ ≡ r)
+call-refuses f m q r x r′ c =
+    let s = search-refuses f m q r (c .answer) r′ (c .searched) in
+    let same : (n p : ℕ) → x ≡ answer.numbersOf (Answer.Refused n p) → c .answer ≡ Answer.Refused n p = λ n p e. refusal-numbers (c .answer) n p (sym (c .numbers) ∙ e) in
+    record {
+      exactly = λ n p. (λ e. s .exactly n p .0 (same n p e), λ h. c .numbers ∙ ap answer.numbersOf (s .exactly n p .1 h));
+      alters-nothing = λ n p e. s .alters-nothing n p (same n p e);
+    }
+
+-- the collector's number
+module _ (f : Floor) (m : List ℕ) (c : Claim) (fits : c .cost ≤ MARK) (x : ℕ) (promised : x ≡ packed (routeVerdict f m c)) (n p : ℕ) where
+  fault-high : IsFault f m c n p → 41 ≤ n
+  fault-high (of-step h t low) = above 40 (stepFaults f m (standsAt f m c p) (getD (c .route) p 0) p) tt (line n true p) (low .applies)
+  fault-high (of-end t low) = above 40 (endFaults f m c) tt (line n true p) (low .applies)
+
+  call-says : SaysRefused x n p ↔ IsLowestLine (claimLines f m c) n p
+  call-says = (
+    λ s. ⊎-elim
+        (λ e. lowest-line (claimLines f m c) 0 tt n p .0 (route-refused-exactly f m c n p .0 e))
+        (λ e. absurd (omega (arith, fault-high (fault-exactly f m c n p .0 e .1), s .no-fault)))
+        (told-exactly f m c fits x promised n p (s .not-held) .0 (s .number, s .place)),
+    λ low.
+        let not-held = above 0 (claimLines f m c) tt (line n true p) (low .applies) in
+        let told = told-exactly f m c fits x promised n p not-held .1 (inl (route-refused-exactly f m c n p .1 (lowest-line (claimLines f m c) 0 tt n p .1 low))) in
+        record { number = told .0; place = told .1; no-fault = below 41 (claimLines f m c) tt (line n true p) (low .applies); not-held = not-held },
+  )
+
+-- what is refused of a record does not depend on what the rooms hold
+same-refusable : {f : Floor} {m question : List ℕ} {r s : Rooms} {n p : ℕ} → SameLengths r s → IsRefusable f m question r n p → IsRefusable f m question s n p
+same-refusable same (zeros-missing z e l) = zeros-missing z e l
+same-refusable same (not-searched z low) = not-searched z (rw (same .costs, same .work, same .route) low)
+
+-- a record is a refusal's exactly when its answer is that refusal, at some place
+refusal-record : (a : Answer) (n p : ℕ) → recordOf a ≡ recordOf (Answer.Refused n p) → (k : ℕ) × (a ≡ Answer.Refused n k)
+unfolding recordOf
+refusal-record (Answer.Refused i j) n p e = let number : i ≡ n = ap (λ (bytes : List ℕ). getD bytes 1 0) e in (j, rw number)
+refusal-record (Found s c l) n p e = absurd (omega (arith, ap (λ (bytes : List ℕ). getD bytes 0 0) e))
+refusal-record (None s) n p e = absurd (omega (arith, ap (λ (bytes : List ℕ). getD bytes 0 0) e))
+refusal-record (Stopped s c) n p e = absurd (omega (arith, ap (λ (bytes : List ℕ). getD bytes 0 0) e))
+
+records-refuse : (f : Floor) (m bytes : List ℕ) (r : Rooms) (k : ℕ) (bytes′ : List ℕ) (r′ : Rooms) → IsAnswered f m bytes r k bytes′ r′
+    → (i : ℕ) → i < wholeRecords bytes → (n : ℕ)
+    → ((p : ℕ) × (recordAt i bytes′ ≡ recordOf (Answer.Refused n p))) ↔ ((p : ℕ) × IsRefusable f m (recordAt i bytes) r n p)
+records-refuse f m bytes r k bytes′ r′ x i h n =
+    let y = answered-each f m (wholeRecords bytes) bytes r bytes′ r′ (x .records) i h in
+    let s = question-refuses f m (recordAt i bytes) (y .rooms) (y .answer) (y .left) (y .asked) in (
+      λ e. let a = refusal-record (y .answer) n (e .0) (sym (y .leaves) ∙ e .1) in (a .0, same-refusable (alike (y .lengths) same-length) (s .exactly n (a .0) .0 (a .1))),
+      λ e. (e .0, y .leaves ∙ ap recordOf (s .exactly n (e .0) .1 (same-refusable (y .lengths) (e .1)))),
+    )
+
 -- The first condition of the tender, of refusals
 pub first-condition : FirstCondition
 first-condition = record {
   search = search-refuses;
+  search-call = call-refuses;
+  route-call = call-says;
+  judge = judge-refuses;
+  program-records = records-refuse;
   route-check = λ f m c v e n p.
       Iff·trans (verdict-refused route.numbersOf routeOf route-back n p e) (Iff·trans (route-refused-exactly f m c n p) (lowest-line (claimLines f m c) 0 tt n p));
   table-check = λ f m s t v e n p.

@@ -1,11 +1,12 @@
 pub mod CasesHold
 pub mod Unread
-pub mod FirstHolds
 pub mod Rowed
 pub mod Leaving
 pub mod Tabled
+pub mod Searches
+pub mod Records
+pub mod FirstHolds
 pub mod SecondHolds
 pub mod ThirdHolds
 pub mod OneTable
-pub mod Searches
 pub mod AloneHolds

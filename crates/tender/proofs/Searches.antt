@@ -64,7 +64,7 @@ module _ {f : Floor} {m : List ℕ} {q : Question} {r : Rooms} {a : Answer} {r�
       ∙ take-append-le (numbersOf a .length) (given x .route) (drop (length (given x .route)) (r .route)) told
 
 -- rooms of the same lengths are refused alike
-same-screen : (f : Floor) (m : List ℕ) (q : Question) {r p : Rooms} → SameLengths r p → screen (searchLines f m q p) ≡ screen (searchLines f m q r)
+pub same-screen : (f : Floor) (m : List ℕ) (q : Question) {r p : Rooms} → SameLengths r p → screen (searchLines f m q p) ≡ screen (searchLines f m q r)
 same-screen f m q same = rw (same .costs, same .work, same .route) refl
 
 module _ {f : Floor} {m : List ℕ} {q : Question} {r p : Rooms} (same : SameLengths r p) {a b : Answer} {r′ p′ : Rooms} where

@@ -1,33 +1,74 @@
 -- The third condition: a found route costs least and a floor no more than any route, and the floor crate compares true lengths by costs.
-use mathlib.Core.Path.{_≡_, refl}
+use mathlib.Core.Path.{_≡_, refl, _∙_}
 use mathlib.Core.List.{List, [], _∷_}
 use Prim.Native.Nat.{ℕ, _*_}
+use native.Mathlib.Omega.{arith}
 use lib.ListN.{take, replicate}
 use Rattle.paths.specs.Route.{costOf}
-use Rattle.settling.specs.Answer as row
+use Rattle.paths.specs.First.{First}
 use Rattle.floor.specs.declared.Floor.{Floor}
 use Rattle.floor.specs.Length.{surd, square, times, squared, stepLength, lengthOf}
 use Rattle.floor.specs.Step.{stepWeight, stepCost, target, graph}
 use Rattle.floor.proofs.Lengths.{cost-over-length, cost-under-length, floor-under-length, length-under-length}
 use Rattle.search.specs.declared.Answer.{Answer}
-use Rattle.search.specs.Search.{Question, Rooms, Searched}
+use Rattle.search.specs.declared.Answer.the-variants.{Found, None, Stopped}
+use Rattle.search.specs.Search.{Question, Rooms, Searched, numbersOf}
+use Rattle.desk.specs.Record.{questionIn, waysIn}
+use Rattle.desk.specs.Desk.{withWays, Asked, no-zeros, searched, wholeRecords}
 use Rattle.tender.specs.ThirdCondition.{Measured, ThirdCondition}
 use Rattle.tender.proofs.Rowed.{found-route, stopped-below}
+use Rattle.tender.proofs.Records.{record-numbers, answered-each}
+
+-- an answer is found or stopped exactly by its kind
+found-is : (a : Answer) → numbersOf a .kind ≡ 1 → a ≡ Found (numbersOf a .settled) (numbersOf a .number) (numbersOf a .length)
+found-is (Answer.Refused n p) e = absurd (omega arith)
+found-is (Found s c l) e = refl
+found-is (None s) e = absurd (omega arith)
+found-is (Stopped s c) e = absurd (omega arith)
+
+stopped-is : (a : Answer) → numbersOf a .kind ≡ 3 → a ≡ Stopped (numbersOf a .settled) (numbersOf a .number)
+stopped-is (Answer.Refused n p) e = absurd (omega arith)
+stopped-is (Found s c l) e = absurd (omega arith)
+stopped-is (None s) e = absurd (omega arith)
+stopped-is (Stopped s c) e = refl
 
 module _ {f : Floor} {m : List ℕ} {q : Question} {r : Rooms} {a : Answer} {r′ : Rooms} (x : Searched f m q r a r′) where
-  of-search : Measured f m q a (r′ .route)
-  of-search = record {
-    nearly-shortest = λ s c l e ds w.
-        let y = found-route x s c l e in
-        length-under-length f m (q .start) ds (w .allowed) (q .start) (take l (r′ .route)) (y .0 .route .allowed) (y .0 .least ds w);
-    cost-above = λ s c l e. let y = found-route x s c l e in rw (y .1) at (cost-over-length f m (q .start) (take l (r′ .route)) (y .0 .route .allowed));
-    cost-below = λ s c l e. let y = found-route x s c l e in rw (y .1) at (cost-under-length f m (q .start) (take l (r′ .route)) (y .0 .route .allowed));
-    floor-below = λ s c e ds w. floor-under-length f m (q .start) ds (w .allowed) c (stopped-below x s c e ds w);
-  }
+  abbrev ds : List ℕ
+  ds = take (numbersOf a .length) (r′ .route)
+
+  way : numbersOf a .kind ≡ 1 → First (graph f m) (q .start) (q .goal) ds × (costOf (graph f m) (q .start) ds ≡ numbersOf a .number)
+  way e = found-route x (numbersOf a .settled) (numbersOf a .number) (numbersOf a .length) (found-is a e)
+
+  of-search : Measured f m q (numbersOf a) (r′ .route)
+  of-search =
+      record {
+        nearly-shortest = λ e es w. let y = way e in length-under-length f m (q .start) es (w .allowed) (q .start) ds (y .0 .route .allowed) (y .0 .least es w);
+        cost-above = λ e. let y = way e in rw (y .1) at (cost-over-length f m (q .start) ds (y .0 .route .allowed));
+        cost-below = λ e. let y = way e in rw (y .1) at (cost-under-length f m (q .start) ds (y .0 .route .allowed));
+        floor-below = λ e es w.
+            floor-under-length f m (q .start) es (w .allowed) (numbersOf a .number) (stopped-below x (numbersOf a .settled) (numbersOf a .number) (stopped-is a e) es w);
+      }
+
+-- a question record: a refusal is neither found nor stopped
+of-record : {f : Floor} {m question : List ℕ} {r : Rooms} {a : Answer} {r′ : Rooms} → Asked f m question r a r′
+    → Measured (withWays f (waysIn question)) m (questionIn question) (numbersOf a) (r′ .route)
+of-record (no-zeros z e l) = rw e (record {
+  nearly-shortest = λ k ds w. absurd (omega arith);
+  cost-above = λ k. absurd (omega arith);
+  cost-below = λ k. absurd (omega arith);
+  floor-below = λ k ds w. absurd (omega arith);
+})
+of-record (searched z x) = of-search x
 
 -- The third condition of the tender
 pub third-condition : ThirdCondition
-third-condition = record { search = λ f m q r a r′ x. of-search x }
+third-condition = record {
+  search = λ f m q r a r′ x. of-search x;
+  call = λ f m q r n r′ x. rw (x .numbers) (of-search (x .searched));
+  records = λ f m bytes r k bytes′ r′ x i h.
+      let y = answered-each f m (wholeRecords bytes) bytes r bytes′ r′ (x .records) i h in
+      (numbersOf (y .answer), y .leaves ∙ record-numbers (y .answer), (y .left .route, of-record (y .asked)));
+}
 
 -- 01's example: two diagonal steps of weight 1 have T² = 8 and cost 198, and 2 × 198² = 9801 × 8, so the bound is reached
 abbrev ones : List ℕ

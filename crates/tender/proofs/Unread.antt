@@ -38,6 +38,10 @@ pub reader-refuses : (text room : List ℕ) (r : Read) (room′ : List ℕ) → 
     → Refuses (IsFirstFault text (length room)) (λ n p. r ≡ Read.Refused n p) (room′ ≡ room)
 reader-refuses text room r room′ x = from-reading (readingOf text (length room)) (x .answers) (x .leaves) (refused-exactly text (length room))
 
+pub judge-refuses : (text : List ℕ) (room : ℕ) (r : Read) → numbersOf r ≡ readFor (readingOf text room)
+    → (n p : ℕ) → (r ≡ Read.Refused n p) ↔ IsFirstFault text room n p
+judge-refuses text room r e n p = Iff·trans (read-refused (readingOf text room) r n p e) (refused-exactly text room n p)
+
 -- a map is refused for a side exactly when one is too great
 sides-refused : (w h : ℕ) (m : List ℕ) (n p : ℕ)
     → (withinSides (read w h m) ≡ refused n p) ↔ (((greatestUsedSide < w) ⊎ (greatestUsedSide < h)) × (n ≡ 14) × (p ≡ 0))

@@ -10,7 +10,7 @@ use Rattle.floor.specs.Refusal.{screen}
 use Rattle.search.specs.declared.Answer.{Answer}
 use Rattle.search.specs.Search.{Question, Rooms, searchLines, Searched, numbersOf}
 use Rattle.desk.specs.Record.{recordSize}
-use Rattle.desk.specs.Desk.{wholeRecords, IsAnswered}
+use Rattle.desk.specs.Desk.{wholeRecords, recordAt, IsAnswered}
 use Rattle.tender.specs.SearchTable.{SameLengths}
 
 -- the parts of the rooms that a search writes hold the same; n is the length of the route
@@ -18,10 +18,6 @@ pub record SameWritten (f : Floor) (n : ℕ) (r p : Rooms) : Type 0 where
   pub costs : take (cells f) (r .costs) ≡ take (cells f) (p .costs)
   pub work : take (2 * cells f) (r .work) ≡ take (2 * cells f) (p .work)
   pub route : take n (r .route) ≡ take n (p .route)
-
--- the record at place i of a buffer, counted from 0
-abbrev pub recordAt : ℕ → List ℕ → List ℕ
-recordAt i bytes = take recordSize (drop (i * recordSize) bytes)
 
 -- r and p are rooms of the same lengths that hold anything
 pub record AsIfAlone : Type 0 where

@@ -4,8 +4,9 @@ use mathlib.Core.Path.{_≡_}
 use mathlib.Core.Logic.{_↔_, _⊎_}
 use mathlib.Core.Bool.{true, false}
 use mathlib.Core.List.{List}
-use Prim.Native.Nat.{ℕ, _≤_, _<_}
+use Prim.Native.Nat.{ℕ, _/_, _%_, _≤_, _<_}
 use lib.ListN.{length}
+use Rattle.paths.specs.Graph.{MARK}
 use Rattle.floor.specs.declared.Floor.{Floor}
 use Rattle.floor.specs.declared.Screen.{Screen}
 use Rattle.floor.specs.Refusal.{screen, mapLines, floorLines, questionLines}
@@ -14,19 +15,22 @@ use Rattle.floor.specs.Numbers.{refused, numbersOf}
 use Rattle.maptext.specs.declared.Read.{Read}
 use Rattle.maptext.specs.declared.Written.{Written}
 use Rattle.maptext.specs.Text.{writeLines, IsWritten}
-use Rattle.maptext.specs.Reading.{read, readingOf, IsRead}
+use Rattle.maptext.specs.Reading as reading
+use Rattle.maptext.specs.Reading.{read, readingOf, readFor, IsRead}
 use Rattle.maptext.specs.Faults.{IsFirstFault}
 use Rattle.claims.specs.declared.RouteVerdict.{RouteVerdict}
 use Rattle.claims.specs.declared.TableVerdict.{TableVerdict}
 use Rattle.claims.specs.Route as route
-use Rattle.claims.specs.Route.{Claim, claimLines, routeVerdict}
+use Rattle.claims.specs.Route.{Claim, claimLines, routeVerdict, packed}
 use Rattle.claims.specs.Table as table
 use Rattle.claims.specs.Table.{tableLines, tableVerdict}
 use Rattle.search.specs.declared.Answer.{Answer}
-use Rattle.search.specs.Search.{Question, Rooms, searchLines, Searched}
+use Rattle.search.specs.declared.AnswerNumbers.{AnswerNumbers}
+use Rattle.search.specs.Search as answer
+use Rattle.search.specs.Search.{Question, Rooms, searchLines, Searched, Called}
 use Rattle.desk.specs.Use.{greatestText, greatestUsedSide, IsUsed}
-use Rattle.desk.specs.Record.{questionIn, waysIn, endsInZeros}
-use Rattle.desk.specs.Desk.{withWays, Asked}
+use Rattle.desk.specs.Record.{questionIn, waysIn, endsInZeros, recordOf}
+use Rattle.desk.specs.Desk.{withWays, Asked, wholeRecords, recordAt, IsAnswered}
 
 -- `refused n p`: the answer is refusal n with place p; `due n p`: 01 says so; `same`: every lent room is as it was
 pub record Refuses (due refused : ℕ → ℕ → Type 0) (same : Type 0) : Type 0 where
@@ -46,22 +50,39 @@ pub data IsRefusable (f : Floor) (m question : List ℕ) (r : Rooms) (n p : ℕ)
   not-searched : endsInZeros question ≡ true → IsLowestLine (searchLines (withWays f (waysIn question)) m (questionIn question) r) n p
       → IsRefusable f m question r n p
 
+-- the collector's number says refusal n at place p: a fault has a number from 41 on
+pub record SaysRefused (x n p : ℕ) : Type 0 where
+  pub number : x / 4294967296 ≡ n
+  pub place : x % 4294967296 ≡ p
+  pub no-fault : n < 41
+  pub not-held : 0 < n
+
 -- The checks are lent nothing to write to: what they answer is all that they do
 pub record FirstCondition : Type 0 where
   pub search : (f : Floor) (m : List ℕ) (q : Question) (r : Rooms) (a : Answer) (r′ : Rooms) → Searched f m q r a r′
       → Refuses (IsLowestLine (searchLines f m q r)) (λ n p. a ≡ Answer.Refused n p) (r′ ≡ r)
+  pub search-call : (f : Floor) (m : List ℕ) (q : Question) (r : Rooms) (x : AnswerNumbers) (r′ : Rooms) → Called f m q r x r′
+      → Refuses (IsLowestLine (searchLines f m q r)) (λ n p. x ≡ answer.numbersOf (Answer.Refused n p)) (r′ ≡ r)
   pub route-check : (f : Floor) (m : List ℕ) (c : Claim) (v : RouteVerdict) → route.numbersOf v ≡ routeVerdict f m c
       → (n p : ℕ) → (v ≡ RouteVerdict.Refused n p) ↔ IsLowestLine (claimLines f m c) n p
+  pub route-call : (f : Floor) (m : List ℕ) (c : Claim) → c .cost ≤ MARK → (x : ℕ) → x ≡ packed (routeVerdict f m c)
+      → (n p : ℕ) → SaysRefused x n p ↔ IsLowestLine (claimLines f m c) n p
   pub table-check : (f : Floor) (m : List ℕ) (s : ℕ) (t : List ℕ) (v : TableVerdict) → table.numbersOf v ≡ tableVerdict f m s t
       → (n p : ℕ) → (v ≡ TableVerdict.Refused n p) ↔ IsLowestLine (tableLines f m s t) n p
   pub writer : (f : Floor) (m room : List ℕ) (w : Written) (room′ : List ℕ) → IsWritten f m room w room′
       → Refuses (IsLowestLine (writeLines f m (length room))) (λ n p. w ≡ Written.Refused n p) (room′ ≡ room)
   pub reader : (text room : List ℕ) (r : Read) (room′ : List ℕ) → IsRead text room r room′
       → Refuses (IsFirstFault text (length room)) (λ n p. r ≡ Read.Refused n p) (room′ ≡ room)
+  pub judge : (text : List ℕ) (room : ℕ) (r : Read) → reading.numbersOf r ≡ readFor (readingOf text room)
+      → (n p : ℕ) → (r ≡ Read.Refused n p) ↔ IsFirstFault text room n p
   pub program-map : (text room : List ℕ) (r : Read) (room′ : List ℕ) → IsUsed text room r room′
       → Refuses (IsUnusable text (length room)) (λ n p. r ≡ Read.Refused n p) (room′ ≡ room)
   pub program-question : (f : Floor) (m question : List ℕ) (r : Rooms) (a : Answer) (r′ : Rooms) → Asked f m question r a r′
       → Refuses (IsRefusable f m question r) (λ n p. a ≡ Answer.Refused n p) (r′ ≡ r)
+  -- record i of a buffer is answered with refusal n exactly when it is to be; a record says no place
+  pub program-records : (f : Floor) (m bytes : List ℕ) (r : Rooms) (k : ℕ) (bytes′ : List ℕ) (r′ : Rooms) → IsAnswered f m bytes r k bytes′ r′
+      → (i : ℕ) → i < wholeRecords bytes → (n : ℕ)
+      → ((p : ℕ) × (recordAt i bytes′ ≡ recordOf (Answer.Refused n p))) ↔ ((p : ℕ) × IsRefusable f m (recordAt i bytes) r n p)
   -- the screens that the entries share: 1 to 3, 1 to 4, 1 to 8
   pub map-screen : (f : Floor) (m : List ℕ) (x : Screen) → x ≡ screen (mapLines f m)
       → (n p : ℕ) → (numbersOf x ≡ refused n p) ↔ IsLowestLine (mapLines f m) n p

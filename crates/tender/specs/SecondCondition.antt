@@ -1,8 +1,9 @@
 -- The second condition of the tender: the answers of the search, claims accepted exactly when true, and the map's round trip.
 use mathlib.Core.Path.{_≡_}
 use mathlib.Core.Logic.{_↔_}
+use mathlib.Core.Bool.{true}
 use mathlib.Core.List.{List, _++_}
-use Prim.Native.Nat.{ℕ, _≤_, _<_}
+use Prim.Native.Nat.{ℕ, _/_, _%_, _≤_, _<_}
 use lib.ListN.{length, getD, take, drop}
 use Rattle.paths.specs.Graph.{MARK}
 use Rattle.paths.specs.Route.{costOf, Route, Reachable}
@@ -16,19 +17,32 @@ use Rattle.maptext.specs.declared.Read.{Read}
 use Rattle.maptext.specs.declared.Read.the-variants.{Map}
 use Rattle.maptext.specs.declared.Written.the-variants.{Length}
 use Rattle.maptext.specs.Text.{IsWritten}
-use Rattle.maptext.specs.Reading.{IsRead}
+use Rattle.maptext.specs.Reading as reading
+use Rattle.maptext.specs.Reading.{readingOf, readFor, IsRead}
 use Rattle.claims.specs.declared.RouteVerdict.{RouteVerdict}
 use Rattle.claims.specs.declared.RouteVerdict.the-variants.{Holds}
 use Rattle.claims.specs.declared.TableVerdict.{TableVerdict}
 use Rattle.claims.specs.declared.TableVerdict.the-variants.{Right}
 use Rattle.claims.specs.Route as route
-use Rattle.claims.specs.Route.{Claim, claimLines, routeVerdict}
+use Rattle.claims.specs.Route.{Claim, claimLines, routeVerdict, IsTrue, packed}
 use Rattle.claims.specs.Table as claimed
 use Rattle.claims.specs.Table.{tableLines, tableVerdict}
 use Rattle.search.specs.declared.Answer.{Answer}
 use Rattle.search.specs.declared.AnswerNumbers.{AnswerNumbers}
 use Rattle.search.specs.Search.{Question, Rooms, searchLines, Searched, numbersOf, Called}
-use Rattle.tender.specs.SearchTable.{TableHolds}
+use Rattle.desk.specs.Record.{questionIn, waysIn, endsInZeros, recordFor}
+use Rattle.desk.specs.Use.{IsUsed}
+use Rattle.desk.specs.Desk.{withWays, wholeRecords, recordAt, IsAnswered}
+use Rattle.tender.specs.SearchTable.{SameLengths, TableHolds}
+
+-- an answer record: it is the record of numbers for which 01's table holds, in rooms of the lengths of r
+pub record RecordHolds (f : Floor) (m : List ℕ) (q : Question) (r : Rooms) (answer : List ℕ) : Type 0 where
+  pub numbers : AnswerNumbers
+  pub is-record : answer ≡ recordFor numbers
+  pub before : Rooms
+  pub after : Rooms
+  pub lengths : SameLengths r before
+  pub table : TableHolds f m q numbers before after
 
 pub record SecondCondition : Type 0 where
   pub search : (f : Floor) (m : List ℕ) (q : Question) (r : Rooms) (a : Answer) (r′ : Rooms) → Searched f m q r a r′
@@ -36,10 +50,18 @@ pub record SecondCondition : Type 0 where
   -- and so for the call from C
   pub call : (f : Floor) (m : List ℕ) (q : Question) (r : Rooms) (n : AnswerNumbers) (r′ : Rooms) → Called f m q r n r′
       → screen (searchLines f m q r) ≡ Passed → TableHolds f m q n r r′
+  -- and for each record of a buffer that is not refused, in rooms of the same lengths
+  pub records : (f : Floor) (m bytes : List ℕ) (r : Rooms) (k : ℕ) (bytes′ : List ℕ) (r′ : Rooms) → IsAnswered f m bytes r k bytes′ r′
+      → (i : ℕ) → i < wholeRecords bytes →
+      let q = recordAt i bytes in
+      endsInZeros q ≡ true → screen (searchLines (withWays f (waysIn q)) m (questionIn q) r) ≡ Passed → RecordHolds (withWays f (waysIn q)) m (questionIn q) r (recordAt i bytes′)
   -- "Claims not refused are accepted exactly when true": a route, a cost table, and a "none" by the table
   pub route-claim : (f : Floor) (m : List ℕ) (c : Claim) (v : RouteVerdict) → route.numbersOf v ≡ routeVerdict f m c → screen (claimLines f m c) ≡ Passed
       → (k : ℕ) → (v ≡ Holds k)
       ↔ (Route (graph f m) (c .start) (c .goal) (c .route) × (costOf (graph f m) (c .start) (c .route) ≡ c .cost) × (k ≡ c .cost))
+  -- for the collector: 0 in the high half, and then the cost in the low half
+  pub route-call : (f : Floor) (m : List ℕ) (c : Claim) → c .cost ≤ MARK → (x : ℕ) → x ≡ packed (routeVerdict f m c)
+      → ((x / 4294967296 ≡ 0) ↔ IsTrue f m c) × (x / 4294967296 ≡ 0 → x % 4294967296 ≡ c .cost)
   pub table-claim : (f : Floor) (m : List ℕ) (s : ℕ) (t : List ℕ) (v : TableVerdict) → claimed.numbersOf v ≡ tableVerdict f m s t
       → screen (tableLines f m s t) ≡ Passed → (v ≡ Right) ↔ table.Right (graph f m) s (take (cells f) t)
   pub none-claim : (f : Floor) (m : List ℕ) (s : ℕ) (t : List ℕ) (v : TableVerdict) → claimed.numbersOf v ≡ tableVerdict f m s t
@@ -49,3 +71,6 @@ pub record SecondCondition : Type 0 where
   pub map : (f : Floor) (m text text′ : List ℕ) (n : ℕ) → IsWritten f m text (Length n) text′
       → (room : List ℕ) (r : Read) (room′ : List ℕ) → IsRead (take n text′) room r room′ → cells f ≤ length room
       → (r ≡ Map (record { width = f .width; height = f .height; ways = 8 })) × (room′ ≡ m ++ drop (length m) room)
+  -- judging answers what the reader does with a room of that length; a map that the program can use is what the reader reads
+  pub judge : (text room : List ℕ) (r : Read) (room′ : List ℕ) → IsRead text room r room′ → (j : Read) → reading.numbersOf j ≡ readFor (readingOf text (length room)) → j ≡ r
+  pub program-map : (text room : List ℕ) (f : Floor) (room′ : List ℕ) → IsUsed text room (Map f) room′ → IsRead text room (Map f) room′

@@ -1,7 +1,7 @@
 -- The third condition of the tender: how a route's true length compares, for the route and the floor that the search returns.
 use mathlib.Core.Path.{_≡_}
 use mathlib.Core.List.{List}
-use Prim.Native.Nat.{ℕ, _*_}
+use Prim.Native.Nat.{ℕ, _*_, _<_}
 use lib.Dec.{T}
 use lib.ListN.{take}
 use Rattle.paths.specs.Route.{Route}
@@ -9,8 +9,10 @@ use Rattle.floor.specs.declared.Floor.{Floor}
 use Rattle.floor.specs.Length.{Surd, surd, square, atMost, times, squared, lengthOf}
 use Rattle.floor.specs.Step.{graph}
 use Rattle.search.specs.declared.Answer.{Answer}
-use Rattle.search.specs.declared.Answer.the-variants.{Found, Stopped}
-use Rattle.search.specs.Search.{Question, Rooms, Searched}
+use Rattle.search.specs.declared.AnswerNumbers.{AnswerNumbers}
+use Rattle.search.specs.Search.{Question, Rooms, Searched, numbersOf, Called}
+use Rattle.desk.specs.Record.{questionIn, waysIn, recordFor}
+use Rattle.desk.specs.Desk.{withWays, wholeRecords, recordAt, IsAnswered}
 
 -- the square of a route's true length, times k
 abbrev pub timesSquare : ℕ → Floor → List ℕ → Question → List ℕ → Surd
@@ -20,17 +22,23 @@ timesSquare k f m q ds = times k (squared (lengthOf f m (q .start) ds))
 abbrev pub twiceSquare : ℕ → Surd
 twiceSquare c = surd (2 * square c) 0
 
--- The answer a and the route room after a search
-pub record Measured (f : Floor) (m : List ℕ) (q : Question) (a : Answer) (route : List ℕ) : Type 0 where
+-- n are 01's numbers of the answer to question q: kind 1 is found, 3 stopped. The route room begins with the route
+pub record Measured (f : Floor) (m : List ℕ) (q : Question) (n : AnswerNumbers) (room : List ℕ) : Type 0 where
   -- 9800 × its true length² ≤ 9801 × that of any allowed route for the same question
-  pub nearly-shortest : (s c l : ℕ) → a ≡ Found s c l → (ds : List ℕ) → Route (graph f m) (q .start) (q .goal) ds
-      → T (atMost (timesSquare 9800 f m q (take l route)) (timesSquare 9801 f m q ds))
+  pub nearly-shortest : n .kind ≡ 1 → (ds : List ℕ) → Route (graph f m) (q .start) (q .goal) ds
+      → T (atMost (timesSquare 9800 f m q (take (n .length) room)) (timesSquare 9801 f m q ds))
   -- 2 × its cost² lies between 9800 and 9801 × its own true length²
-  pub cost-above : (s c l : ℕ) → a ≡ Found s c l → T (atMost (timesSquare 9800 f m q (take l route)) (twiceSquare c))
-  pub cost-below : (s c l : ℕ) → a ≡ Found s c l → T (atMost (twiceSquare c) (timesSquare 9801 f m q (take l route)))
+  pub cost-above : n .kind ≡ 1 → T (atMost (timesSquare 9800 f m q (take (n .length) room)) (twiceSquare (n .number)))
+  pub cost-below : n .kind ≡ 1 → T (atMost (twiceSquare (n .number)) (timesSquare 9801 f m q (take (n .length) room)))
   -- after a stop, 2 × floor² ≤ 9801 × the true length² of any allowed route to the goal
-  pub floor-below : (s c : ℕ) → a ≡ Stopped s c → (ds : List ℕ) → Route (graph f m) (q .start) (q .goal) ds
-      → T (atMost (twiceSquare c) (timesSquare 9801 f m q ds))
+  pub floor-below : n .kind ≡ 3 → (ds : List ℕ) → Route (graph f m) (q .start) (q .goal) ds
+      → T (atMost (twiceSquare (n .number)) (timesSquare 9801 f m q ds))
 
 pub record ThirdCondition : Type 0 where
-  pub search : (f : Floor) (m : List ℕ) (q : Question) (r : Rooms) (a : Answer) (r′ : Rooms) → Searched f m q r a r′ → Measured f m q a (r′ .route)
+  pub search : (f : Floor) (m : List ℕ) (q : Question) (r : Rooms) (a : Answer) (r′ : Rooms) → Searched f m q r a r′ → Measured f m q (numbersOf a) (r′ .route)
+  pub call : (f : Floor) (m : List ℕ) (q : Question) (r : Rooms) (n : AnswerNumbers) (r′ : Rooms) → Called f m q r n r′ → Measured f m q n (r′ .route)
+  -- record i of a buffer is the record of such numbers, for the route that its search found
+  pub records : (f : Floor) (m bytes : List ℕ) (r : Rooms) (k : ℕ) (bytes′ : List ℕ) (r′ : Rooms) → IsAnswered f m bytes r k bytes′ r′
+      → (i : ℕ) → i < wholeRecords bytes
+      → (n : AnswerNumbers) × (recordAt i bytes′ ≡ recordFor n)
+      × ((room : List ℕ) × Measured (withWays f (waysIn (recordAt i bytes))) m (questionIn (recordAt i bytes)) n room)
