@@ -13,8 +13,7 @@ use Rattle.paths.specs.Graph.{MARK}
 use Rattle.paths.specs.First.{firstRoute}
 use Rattle.paths.specs.Table.{Right}
 use Rattle.settling.specs.Order.{known, L, place}
-use Rattle.settling.specs.Answer as row
-use Rattle.settling.specs.Answer.{answerOf}
+use Rattle.settling.specs.Answer.{Row, answerOf}
 use Rattle.paths.proofs.Bools.{T-and, by-cond}
 use Rattle.paths.proofs.Below.{count-le}
 use Rattle.settling.proofs.Orders.{known-is, in-known, place-absent, length-sorted}
@@ -49,7 +48,7 @@ screen-below k (l ∷ ls) t =
     let a = T-and (ltb (l .number) k) (numbersBelow k ls) t in
     by-cond (NumberBelow k) (l .given) _ _ (λ h. ltb→lt (l .number) k (a .0)) (λ h. screen-below k ls (a .1))
 
-abbrev RowFits : row.Answer → Type 0
+abbrev RowFits : Row → Type 0
 RowFits a = InRecord (numbersOf (answered (a .kind) a))
 
 module _ (f : Floor) (m : List ℕ) (passed : HasPassed f m) (s : ℕ) (start : s < cells f) (t : List ℕ) (right : Right (graph f m) s t) where

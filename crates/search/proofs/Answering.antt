@@ -8,8 +8,7 @@ use lib.ListN.{length, getD, drop}
 use Rattle.paths.specs.Graph.{MARK}
 use Rattle.paths.specs.First.{firstRoute}
 use Rattle.settling.specs.Order.{key}
-use Rattle.settling.specs.Answer as row
-use Rattle.settling.specs.Answer.{costsLeft}
+use Rattle.settling.specs.Answer.{Row, costsLeft}
 use Rattle.settling.specs.Cut.{cheaperThan, Agree}
 use Rattle.settling.proofs.Cuts.{wave-agrees, key-to, rank-bound, place-rank, place-early}
 use Rattle.settling.proofs.Walking.{plain, agree-plain, near-plain}
@@ -52,9 +51,9 @@ module _ {f : Floor} {m : List ℕ} {q : Question} {costs work route : List ℕ}
       record {
         table = table f m q costs work (b .front) x;
         right = right f m q costs work (b .front) x;
-        answer = sym (ap (λ (a : row.Answer). answered (a .kind) a) e);
-        costs-left = sym (ap (λ (a : row.Answer). costsLeft (table f m q costs work (b .front) x) (a .settled)) e ∙ left-all f m q costs work (b .front) x (c .inside) z (r .goal-open) (r .within));
-        route-left = sym (ap (λ (a : row.Answer). a .route ++ drop (length (a .route)) route) e);
+        answer = sym (ap (λ (a : Row). answered (a .kind) a) e);
+        costs-left = sym (ap (λ (a : Row). costsLeft (table f m q costs work (b .front) x) (a .settled)) e ∙ left-all f m q costs work (b .front) x (c .inside) z (r .goal-open) (r .within));
+        route-left = sym (ap (λ (a : Row). a .route ++ drop (length (a .route)) route) e);
       }
 
   -- some cell is open: the costs are right below the band's bound
@@ -105,9 +104,9 @@ module _ {f : Floor} {m : List ℕ} {q : Question} {costs work route : List ℕ}
         record {
           table = t;
           right = right f m q costs work (b .front) x;
-          answer = s .answer ∙ sym (ap (λ (a : row.Answer). answered (a .kind) a) e);
-          costs-left = s .left ∙ sym (ap (λ (a : row.Answer). costsLeft t (a .settled)) e ∙ l);
-          route-left = sym (ap (λ (a : row.Answer). a .route ++ drop (length (a .route)) route) e);
+          answer = s .answer ∙ sym (ap (λ (a : Row). answered (a .kind) a) e);
+          costs-left = s .left ∙ sym (ap (λ (a : Row). costsLeft t (a .settled)) e ∙ l);
+          route-left = sym (ap (λ (a : Row). a .route ++ drop (length (a .route)) route) e);
         }
 
     -- the goal is not below the band's bound: the band was the last because of the limit
@@ -155,7 +154,7 @@ module _ {f : Floor} {m : List ℕ} {q : Question} {costs work route : List ℕ}
             right = right f m q costs work (b .front) x;
             answer =
                 y .answer ∙ ap (λ (n : ℕ). Found (suc n) (getD costs (q .goal) 0) (length (firstRoute (graph f m) (q .start) costs (q .goal)))) p
-                ∙ sym (ap (λ (a : row.Answer). answered (a .kind) a) e);
-            costs-left = y .left ∙ sym (ap (λ (a : row.Answer). costsLeft t (a .settled)) e ∙ l);
-            route-left = y .written ∙ sym (ap (λ (a : row.Answer). a .route ++ drop (length (a .route)) route) e);
+                ∙ sym (ap (λ (a : Row). answered (a .kind) a) e);
+            costs-left = y .left ∙ sym (ap (λ (a : Row). costsLeft t (a .settled)) e ∙ l);
+            route-left = y .written ∙ sym (ap (λ (a : Row). a .route ++ drop (length (a .route)) route) e);
           }

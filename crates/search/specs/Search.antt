@@ -6,8 +6,7 @@ use lib.Dec.{ltb}
 use lib.ListN.{length, drop, replicate}
 use Rattle.paths.specs.Graph.{MARK}
 use Rattle.paths.specs.Table.{Right}
-use Rattle.settling.specs.Answer as row
-use Rattle.settling.specs.Answer.{Kind, answerOf, costsLeft}
+use Rattle.settling.specs.Answer.{Kind, Row, answerOf, costsLeft}
 use Rattle.floor.specs.declared.Floor.{Floor}
 use Rattle.floor.specs.declared.Screen.the-variants.{Passed, Refused}
 use Rattle.floor.specs.Place.{cells}
@@ -47,17 +46,17 @@ abbrev pub searchLines : Floor → List ℕ → Question → Rooms → List Line
 searchLines f m q r = lengthLines f m (q .start) (q .goal) (length (r .costs)) (length (r .work)) (length (r .route))
 
 -- the row of 01's table that the right table of the start gives
-abbrev pub rowOf : Floor → List ℕ → Question → List ℕ → row.Answer
+abbrev pub rowOf : Floor → List ℕ → Question → List ℕ → Row
 rowOf f m q t = answerOf (graph f m) (q .start) t (q .goal) (q .limit)
 
 -- a row as the answer of the search: settled count, number returned and route length
-abbrev pub answered : Kind → row.Answer → Answer
+abbrev pub answered : Kind → Row → Answer
 answered Kind.found a = Found (a .settled) (a .number) (length (a .route))
 answered Kind.none a = None (a .settled)
 answered Kind.stopped a = Stopped (a .settled) (a .number)
 
 -- the rooms after an answer: the costs left, zeros, and the route, each with the rest as it was
-abbrev pub after : Floor → List ℕ → row.Answer → Rooms → Rooms
+abbrev pub after : Floor → List ℕ → Row → Rooms → Rooms
 after f t a r =
     rooms (costsLeft t (a .settled) ++ drop (cells f) (r .costs)) (replicate (2 * cells f) 0 ++ drop (2 * cells f) (r .work))
     (a .route ++ drop (length (a .route)) (r .route))

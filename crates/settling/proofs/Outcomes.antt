@@ -12,7 +12,7 @@ use Rattle.paths.specs.Route.{costOf, Route, Reachable}
 use Rattle.paths.specs.Table.{Right}
 use Rattle.paths.specs.First.{First, firstRoute}
 use Rattle.settling.specs.Order.{L, place}
-use Rattle.settling.specs.Answer.{Kind, Answer, answerOf, costsLeft}
+use Rattle.settling.specs.Answer.{Kind, Row, answerOf, costsLeft}
 use Rattle.paths.proofs.Below.{length-values, getD-values}
 use Rattle.settling.proofs.Orders.{place-in, place-absent, at-place}
 use Rattle.paths.proofs.Meaning.{reachable-known, one-first-route, first-route-cost}
@@ -45,7 +45,7 @@ module _ {g : Graph} {least most : ℕ} (law : Lawful g least most) (s : ℕ) (s
   abbrev n : ℕ
   n = length (L t)
 
-  abbrev a : Answer
+  abbrev a : Row
   a = answerOf g s t goal k
 
   -- the three ways in which an answer comes about
@@ -97,11 +97,11 @@ module _ {g : Graph} {least most : ℕ} (law : Lawful g least most) (s : ℕ) (s
       go (no e) = let r = reachable-known law s start t right goal inside .1 e in
           rw (le-ltb i k (x .1 r), lt-ltb i n (placed r), lt-leb n k (x .0), ne-eqb i n (omega (arith, placed r)))
 
-  kind-is : {r : Answer} → a ≡ r → a .kind ≡ r .kind
-  kind-is e = ap (λ (r : Answer). r .kind) e
+  kind-is : {r : Row} → a ≡ r → a .kind ≡ r .kind
+  kind-is e = ap (λ (r : Row). r .kind) e
 
   -- the numbers of two kinds agree if the answer is of both
-  other : {k : Kind} {r : Answer} → a .kind ≡ k → a ≡ r → code k ≡ code (r .kind)
+  other : {k : Kind} {r : Row} → a .kind ≡ k → a ≡ r → code k ≡ code (r .kind)
   other e h = ap code (sym e ∙ kind-is h)
 
   -- Found exactly when the goal is among the first cells of L, up to the limit

@@ -14,15 +14,15 @@ pub data Kind : Type 0 where
   none : Kind
   stopped : Kind
 
--- `number` is the number returned; the route's length is the length of `route`
-pub record Answer : Type 0 where
+-- a row of 01's table; `number` is the number returned, and the route's length is the length of `route`
+pub record Row : Type 0 where
   pub kind : Kind
   pub settled : ℕ
   pub number : ℕ
   pub route : List ℕ
 
 -- n is the length of L and i the goal's place in it, n if the goal is not there; t is the right table of s, k the limit
-unfoldable pub answerOf : Graph → ℕ → List ℕ → ℕ → ℕ → Answer
+unfoldable pub answerOf : Graph → ℕ → List ℕ → ℕ → ℕ → Row
 answerOf g s t goal k =
     let n = length (L t) in
     let i = place goal (L t) in

@@ -9,7 +9,7 @@ use Rattle.paths.specs.Below.{every}
 use Rattle.paths.specs.Table.{offer, due, keeps}
 use Rattle.paths.specs.First.{lastStep, firstRoute}
 use Rattle.settling.specs.Order.{key, known}
-use Rattle.settling.specs.Answer.{Answer, answerOf, costsLeft}
+use Rattle.settling.specs.Answer.{Row, answerOf, costsLeft}
 use Rattle.paths.proofs.Bools.{T-and}
 use Rattle.paths.proofs.Below.{every-at}
 use Rattle.paths.proofs.Meaning.{rule-is-right}
@@ -30,7 +30,7 @@ screened c = screen (linesOf c)
 abbrev obeys : Case → Bool
 obeys c = eqb (length (c .table)) (cells (c .floor)) && every (keeps (graph (c .floor) (c .bytes)) (c .start) (c .table)) (cells (c .floor))
 
-abbrev asked : Case → Answer
+abbrev asked : Case → Row
 asked c = answerOf (graph (c .floor) (c .bytes)) (c .start) (c .table) (c .goal) (c .limit)
 
 abbrev left : Case → List ℕ

@@ -8,8 +8,7 @@ use native.Mathlib.Omega.{arith}
 use lib.Dec.{T}
 use lib.ListN.{length, getD}
 use Rattle.paths.specs.Graph.{MARK}
-use Rattle.settling.specs.Answer as row
-use Rattle.settling.specs.Answer.{Kind}
+use Rattle.settling.specs.Answer.{Kind, Row}
 use Rattle.floor.specs.declared.Floor.{Floor}
 use Rattle.floor.specs.declared.Screen.{Screen}
 use Rattle.floor.specs.declared.Screen.the-variants.{Passed, Refused}
@@ -43,7 +42,7 @@ use Rattle.tender.proofs.Unread.{reader-refuses, judge-refuses, program
 use Rattle.tender.proofs.Records.{same-length, alike, answered-each}
 
 -- an answer that is a row of 01's table is no refusal
-row-no-refusal : (k : Kind) (w : row.Answer) (n p : ℕ) → answered k w ≡ Answer.Refused n p → ⊥
+row-no-refusal : (k : Kind) (w : Row) (n p : ℕ) → answered k w ≡ Answer.Refused n p → ⊥
 row-no-refusal Kind.found w n p e = let z : _≡_ {A = ℕ} 0 1 = cc in omega arith
 row-no-refusal Kind.none w n p e = let z : _≡_ {A = ℕ} 0 1 = cc in omega arith
 row-no-refusal Kind.stopped w n p e = let z : _≡_ {A = ℕ} 0 1 = cc in omega arith

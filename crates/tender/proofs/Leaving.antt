@@ -8,8 +8,7 @@ use lib.Seq.{length-take-le, length-front}
 use Rattle.paths.specs.Graph.{Graph, Lawful}
 use Rattle.paths.specs.Route.{costOf, Least}
 use Rattle.paths.specs.First.{First}
-use Rattle.settling.specs.Answer as row
-use Rattle.settling.specs.Answer.{Kind, costsLeft}
+use Rattle.settling.specs.Answer.{Kind, Row, costsLeft}
 use Rattle.paths.proofs.Meaning.{least-cost-route-short}
 use Rattle.settling.proofs.Outcomes.{none-exactly, stopped-exactly, none-is, stopped-is, found-first, length-left}
 use Rattle.floor.specs.declared.Floor.{Floor}
@@ -53,8 +52,8 @@ module _ {f : Floor} {m : List ℕ} {q : Question} {r : Rooms} {a : Answer} {r�
   route-fits : length (given x .route) ≤ length (r .route)
   route-fits = go (given x .kind) refl
     where
-      empty : {w : row.Answer} → given x ≡ w → w .route ≡ [] → length (given x .route) ≤ length (r .route)
-      empty e z = omega (arith, ap (λ (w : row.Answer). length (w .route)) e, ap length z)
+      empty : {w : Row} → given x ≡ w → w .route ≡ [] → length (given x .route) ≤ length (r .route)
+      empty e z = omega (arith, ap (λ (w : Row). length (w .route)) e, ap length z)
 
       go : (k : Kind) → given x .kind ≡ k → length (given x .route) ≤ length (r .route)
       go Kind.found k =

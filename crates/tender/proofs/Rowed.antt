@@ -10,8 +10,7 @@ use lib.Seq.{take-append-seam}
 use Rattle.paths.specs.Graph.{Lawful}
 use Rattle.paths.specs.Route.{costOf, Route}
 use Rattle.paths.specs.First.{First}
-use Rattle.settling.specs.Answer as row
-use Rattle.settling.specs.Answer.{Kind}
+use Rattle.settling.specs.Answer.{Kind, Row}
 use Rattle.settling.proofs.Outcomes.{code, found-first, found-cost, stopped-floor}
 use Rattle.floor.specs.declared.Floor.{Floor}
 use Rattle.floor.specs.declared.Screen.the-variants.{Passed}
@@ -39,18 +38,18 @@ zero-no-code Kind.found e = omega arith
 zero-no-code Kind.none e = omega arith
 zero-no-code Kind.stopped e = omega arith
 
-pub code-answered : (k : Kind) (r : row.Answer) → numbersOf (answered k r) .kind ≡ code k
+pub code-answered : (k : Kind) (r : Row) → numbersOf (answered k r) .kind ≡ code k
 code-answered Kind.found r = refl
 code-answered Kind.none r = refl
 code-answered Kind.stopped r = refl
 
-settled-answered : (k : Kind) (r : row.Answer) → numbersOf (answered k r) .settled ≡ r .settled
+settled-answered : (k : Kind) (r : Row) → numbersOf (answered k r) .settled ≡ r .settled
 settled-answered Kind.found r = refl
 settled-answered Kind.none r = refl
 settled-answered Kind.stopped r = refl
 
 module _ {f : Floor} {m : List ℕ} {q : Question} {r : Rooms} {a : Answer} {r′ : Rooms} (x : ByTable f m q r a r′) where
-  abbrev pub given : row.Answer
+  abbrev pub given : Row
   given = rowOf f m q (x .table)
 
   -- an answer of kind k comes from a row of that kind

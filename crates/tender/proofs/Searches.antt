@@ -5,8 +5,7 @@ use Prim.Native.Nat.{ℕ, _*_, _≤_}
 use native.Mathlib.Omega.{arith}
 use lib.ListN.{length, take, drop, replicate}
 use lib.Seq.{take-at, take-append-le}
-use Rattle.settling.specs.Answer as row
-use Rattle.settling.specs.Answer.{Kind, costsLeft}
+use Rattle.settling.specs.Answer.{Kind, Row, costsLeft}
 use Rattle.paths.proofs.Exists.{right-unique, right-exists}
 use Rattle.floor.specs.declared.Floor.{Floor}
 use Rattle.floor.specs.declared.Screen.{Screen}
@@ -42,7 +41,7 @@ search-lengths (refused n w e b l) = rw l (record { costs = refl; work = refl; r
 search-lengths (passed e x) = lengths-stay x e
 
 -- no more of the route room is told of than the row's route
-answered-length : (k : Kind) (w : row.Answer) → numbersOf (answered k w) .length ≤ length (w .route)
+answered-length : (k : Kind) (w : Row) → numbersOf (answered k w) .length ≤ length (w .route)
 answered-length Kind.found w = omega arith
 answered-length Kind.none w = omega arith
 answered-length Kind.stopped w = omega arith

@@ -10,8 +10,7 @@ use lib.Seq.{take-at, drop-at}
 use Rattle.paths.specs.Graph.{MARK}
 use Rattle.paths.specs.Route.{Reachable, Least}
 use Rattle.paths.specs.First.{firstRoute}
-use Rattle.settling.specs.Answer as row
-use Rattle.settling.specs.Answer.{Kind, costsLeft}
+use Rattle.settling.specs.Answer.{Kind, Row, costsLeft}
 use Rattle.settling.specs.List.{At}
 use Rattle.settling.specs.Order.{L, place}
 use Rattle.paths.proofs.Meaning.{ends-inside, reachable-known}
@@ -33,7 +32,7 @@ use Rattle.tender.proofs.Leaving.{costs-left, work-left, route-left, co
 kinds-apart : {k l : Kind} → k ≡ l → code k ≢ code l → ⊥
 kinds-apart e n = n (ap code e)
 
-no-refusal : (k : Kind) (w : row.Answer) → (numbersOf (answered k w) .refusal ≡ 0) × (numbersOf (answered k w) .place ≡ 0)
+no-refusal : (k : Kind) (w : Row) → (numbersOf (answered k w) .refusal ≡ 0) × (numbersOf (answered k w) .place ≡ 0)
 no-refusal Kind.found w = (refl, refl)
 no-refusal Kind.none w = (refl, refl)
 no-refusal Kind.stopped w = (refl, refl)
@@ -111,12 +110,12 @@ module _ {f : Floor} {m : List ℕ} {q : Question} {r : Rooms} {a : Answer} {r�
       (stopped-exactly (law x p) (q .start) (starts x p) t (x .right) (q .goal) (ends x p) (q .limit) .0 k)
 
   -- the numbers of an answer of that kind, when its row is known
-  columns : (k : Kind) {w : row.Answer} → given x .kind ≡ k → given x ≡ w → numbersOf a ≡ numbersOf (answered k w)
+  columns : (k : Kind) {w : Row} → given x .kind ≡ k → given x ≡ w → numbersOf a ≡ numbersOf (answered k w)
   columns k h e = ap numbersOf (as-row x k h ∙ ap (answered k) e)
 
   -- the route room of a row without a route
-  route-kept : {w : row.Answer} → given x ≡ w → w .route ≡ [] → r′ .route ≡ r .route
-  route-kept e z = route-left x p ∙ ap (λ (ds : List ℕ). ds ++ drop (length ds) (r .route)) (ap (λ (w : row.Answer). w .route) e ∙ z)
+  route-kept : {w : Row} → given x ≡ w → w .route ≡ [] → r′ .route ≡ r .route
+  route-kept e z = route-left x p ∙ ap (λ (ds : List ℕ). ds ++ drop (length ds) (r .route)) (ap (λ (w : Row). w .route) e ∙ z)
 
   value-least : (v : ℕ) → Reachable (graph f m) (q .start) v → Least (graph f m) (q .start) v (getD t v 0)
   value-least = reached-value (law x p) (q .start) (starts x p) t (x .right)

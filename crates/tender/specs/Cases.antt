@@ -4,7 +4,7 @@ use mathlib.Core.List.{List, [], _∷_}
 use Prim.Native.Nat.{ℕ, _*_}
 use Rattle.paths.specs.Graph.{MARK}
 use Rattle.paths.specs.Table.{Right}
-use Rattle.settling.specs.Answer.{Kind, Answer, answerOf, costsLeft}
+use Rattle.settling.specs.Answer.{Kind, Row, answerOf, costsLeft}
 use Rattle.floor.specs.declared.Floor.{Floor}
 use Rattle.floor.specs.declared.Screen.the-variants.{Passed}
 use Rattle.floor.specs.Place.{floorOf, cells}
@@ -19,7 +19,7 @@ pub record Case : Type 0 where
   pub start : ℕ
   pub goal : ℕ
   pub limit : ℕ
-  pub answer : Answer
+  pub answer : Row
   pub table : List ℕ
   pub costs : List ℕ
 
@@ -38,16 +38,16 @@ AllHold [] = Unit {0}
 AllHold (c ∷ cs) = Holds c × AllHold cs
 
 -- an answer by the settled count and the number returned
-abbrev found : ℕ → ℕ → List ℕ → Answer
+abbrev found : ℕ → ℕ → List ℕ → Row
 found n c ds = record { kind = Kind.found; settled = n; number = c; route = ds }
 
-abbrev none : ℕ → Answer
+abbrev none : ℕ → Row
 none n = record { kind = Kind.none; settled = n; number = MARK; route = [] }
 
-abbrev stopped : ℕ → ℕ → Answer
+abbrev stopped : ℕ → ℕ → Row
 stopped n c = record { kind = Kind.stopped; settled = n; number = c; route = [] }
 
-abbrev case : Floor → List ℕ → ℕ → ℕ → ℕ → Answer → List ℕ → List ℕ → Case
+abbrev case : Floor → List ℕ → ℕ → ℕ → ℕ → Row → List ℕ → List ℕ → Case
 case f m s g k a t c = record { floor = f; bytes = m; start = s; goal = g; limit = k; answer = a; table = t; costs = c }
 
 abbrev pub cases : List Case
