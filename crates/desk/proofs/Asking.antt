@@ -6,7 +6,7 @@ use Prim.Native.Nat.{ℕ}
 use Rattle.floor.specs.declared.Floor.{Floor}
 use Rattle.search.specs.declared.Answer.{Answer}
 use Rattle.search.specs.Search.{Rooms, question, Searched}
-use Rattle.desk.specs.Record.{numberAt, waysIn, endsInZeros}
+use Rattle.recordlayout.specs.Record.{numberAt, waysIn, endsInZeros}
 use Rattle.desk.specs.Desk.{withWays, Asked, searched}
 
 pub asked-as-read : (f : Floor) (m bytes : List ℕ) (r : Rooms) (s g k w : ℕ) {a : Answer} {r′ : Rooms} → endsInZeros bytes ≡ true

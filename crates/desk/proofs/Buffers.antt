@@ -9,13 +9,10 @@ use lib.Seq.{paste, length-paste, take-paste, drop-paste, drop-drop, take-length
 use Rattle.floor.specs.declared.Floor.{Floor}
 use Rattle.search.specs.declared.Answer.{Answer}
 use Rattle.search.specs.Search.{Rooms}
-use Rattle.desk.specs.Record.{recordSize, recordOf}
+use Rattle.recordlayout.specs.Record.{recordSize, recordOf}
+use Rattle.recordlayout.proofs.Records.{record-length}
 use Rattle.desk.specs.Desk.{Asked, Answered, wholeRecords, IsAnswered}
 use Rattle.desk.specs.Working.{AnsweredAt}
-
-pub record-length : (a : Answer) → length (recordOf a) ≡ recordSize
-unfolding recordOf
-record-length a = refl
 
 -- the question was the part of the buffer from `at` on, and its answer has been stored there
 pub answered-at : {f : Floor} {m bytes : List ℕ} {at : ℕ} {r : Rooms} {a : Answer} {answer bytes′ : List ℕ} {r′ : Rooms}

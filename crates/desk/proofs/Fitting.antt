@@ -30,19 +30,21 @@ use Rattle.floor.proofs.Questions.{question-passed, start-inside, goal-inside}
 use Rattle.search.specs.declared.Answer.{Answer}
 use Rattle.search.specs.Search.{Question, Rooms, searchLines, answered, Searched, refused, passed, numbersOf}
 use Rattle.search.proofs.Lending.{search-question}
-use Rattle.desk.specs.Record.{numberAt, questionIn, InRecord}
+use Rattle.recordlayout.specs.Record.{questionIn}
+use Rattle.recordlayout.specs.Fields.{InRecord}
+use Rattle.recordlayout.proofs.Records.{number-small, refusal-in-record}
 use Rattle.desk.specs.Desk.{Asked, no-zeros, searched}
 
 -- lines with numbers below k refuse with such a number
-abbrev numbersBelow : ℕ → List Line → Bool
+abbrev pub numbersBelow : ℕ → List Line → Bool
 numbersBelow k [] = true
 numbersBelow k (l ∷ ls) = ltb (l .number) k && numbersBelow k ls
 
-abbrev NumberBelow : ℕ → Screen → Type 0
+abbrev pub NumberBelow : ℕ → Screen → Type 0
 NumberBelow k Passed = Unit {0}
 NumberBelow k (Refused n p) = n < k
 
-screen-below : (k : ℕ) (ls : List Line) → T (numbersBelow k ls) → NumberBelow k (screen ls)
+pub screen-below : (k : ℕ) (ls : List Line) → T (numbersBelow k ls) → NumberBelow k (screen ls)
 screen-below k [] t = tt
 screen-below k (l ∷ ls) t =
     let a = T-and (ltb (l .number) k) (numbersBelow k ls) t in
@@ -112,15 +114,6 @@ module _ (f : Floor) (m : List ℕ) (passed : HasPassed f m) (s : ℕ) (start : 
         length-fits = omega arith;
       }))
 
-refusal-in-record : (n p : ℕ) → n < 256 → InRecord (numbersOf (Answer.Refused n p))
-refusal-in-record n p h = record {
-  kind-fits = omega arith;
-  refusal-fits = h;
-  settled-fits = omega arith;
-  number-fits = omega arith;
-  length-fits = omega arith;
-}
-
 searched-fits : (f : Floor) (m : List ℕ) (q : Question) (r : Rooms) {a : Answer} {r′ : Rooms} → q .limit ≤ MARK → Searched f m q r a r′
     → InRecord (numbersOf a)
 searched-fits f m q r small (refused n p e b l) = rw b (refusal-in-record n p (below n p (rw e at (screen-below 12 (searchLines f m q r) tt))))
@@ -135,10 +128,6 @@ searched-fits f m q r small (passed e x) =
     (q .limit)
     (goal-inside f m (q .start) (q .goal) p)
     small)
-
--- a number of four bytes
-number-small : (bytes : List ℕ) (at : ℕ) → ((v : ℕ) → getD bytes v 0 < 256) → numberAt bytes at ≤ MARK
-number-small bytes at small = omega (arith, small at, small (at + 1), small (at + 2), small (at + 3))
 
 -- the numbers of every answer to a question fit their fields
 pub answers-fit : (f : Floor) (m question : List ℕ) (r : Rooms) {a : Answer} {r′ : Rooms} → ((v : ℕ) → getD question v 0 < 256) → Asked f m question r a r′

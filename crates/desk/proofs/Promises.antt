@@ -1,22 +1,18 @@
--- The promises leave nothing open, and 01's example holds of the definitions.
-use mathlib.Core.Path.{_≡_, refl, sym, _∙_, ap, subst}
-use mathlib.Core.Bool.{true}
-use mathlib.Core.List.{List, [], _∷_}
-use Prim.Native.Nat.{ℕ, zero, suc, _+_, _*_, _/_, _%_, _<_}
-use native.Mathlib.Nat.{mod-eq-of-lt}
+-- The promises leave nothing open: a second result, with the rooms, is equal to the first.
+use mathlib.Core.Path.{_≡_, sym, ap, _∙_, subst}
+use mathlib.Core.List.{List, _++_}
+use Prim.Native.Nat.{ℕ, zero, suc}
 use native.Mathlib.Omega.{arith}
-use lib.Arith.{mod-mul}
-use lib.ListN.{length, take, drop}
+use lib.ListN.{take, drop, take-append-drop}
 use Rattle.floor.specs.declared.Floor.{Floor}
 use Rattle.maptext.specs.declared.Read.{Read}
 use Rattle.maptext.proofs.Texts.{readOf, read-back}
 use Rattle.search.specs.declared.Answer.{Answer}
-use Rattle.search.specs.declared.Answer.the-variants.{Found}
-use Rattle.search.specs.declared.AnswerNumbers.{AnswerNumbers}
-use Rattle.search.specs.Search.{Rooms, question}
+use Rattle.search.specs.Search.{Rooms}
 use Rattle.search.proofs.Promise.{one-search}
+use Rattle.recordlayout.specs.Record.{recordSize, questionIn}
 use Rattle.desk.specs.Use.{IsUsed}
-use Rattle.desk.specs.Record.{recordSize, little, numberAt, questionIn, waysIn, endsInZeros, recordFor, recordOf, InRecord}
+use Rattle.desk.specs.Turn.{ArrivedAnswered, IsKept}
 use Rattle.desk.specs.Desk.{Asked, no-zeros, searched, Answered, wholeRecords, IsAnswered}
 
 -- a second result and room that meet the promise of `use_map` are equal
@@ -45,30 +41,16 @@ one-answering f m bytes r x y =
     let all = one-answered f m (wholeRecords bytes) bytes r (x .records) (y .records) in
     (x .bytes-answered ∙ sym (y .bytes-answered), all .0, all .1)
 
--- 01's example: the question, and what its answer is written as
-abbrev example : List ℕ
-example = 0 ∷ 0 ∷ 0 ∷ 0 ∷ 2 ∷ 0 ∷ 0 ∷ 0 ∷ 5 ∷ 0 ∷ 0 ∷ 0 ∷ 8 ∷ 0 ∷ 0 ∷ 0 ∷ []
+-- and for `answer_arrived`
+pub one-arrived : (f : Floor) (m buffer : List ℕ) (end : ℕ) (r : Rooms) {n k : ℕ} {buffer₁ buffer₂ : List ℕ} {r₁ r₂ : Rooms}
+    → ArrivedAnswered f m buffer end r n buffer₁ r₁ → ArrivedAnswered f m buffer end r k buffer₂ r₂ → (n ≡ k) × (buffer₁ ≡ buffer₂) × (r₁ ≡ r₂)
+one-arrived f m buffer end r {buffer₁ = buffer₁} {buffer₂ = buffer₂} x y =
+    let all = one-answering f m (take end buffer) r (x .arrived) (y .arrived) in
+    let front = ap (λ (b : List ℕ). b ++ drop end buffer₁) (all .1) in
+    let back = ap (λ (b : List ℕ). take end buffer₂ ++ b) (x .beyond ∙ sym (y .beyond)) in
+    (all .0, sym (take-append-drop end buffer₁) ∙ front ∙ back ∙ take-append-drop end buffer₂, all .2)
 
-pub example-question : (questionIn example ≡ question 0 2 5) × (waysIn example ≡ 8) × (endsInZeros example ≡ true)
-example-question = (refl, refl, refl)
-
-pub example-answer : recordOf (Found 5 280 4) ≡ 1 ∷ 0 ∷ 0 ∷ 0 ∷ 5 ∷ 0 ∷ 0 ∷ 0 ∷ 24 ∷ 1 ∷ 0 ∷ 0 ∷ 4 ∷ 0 ∷ 0 ∷ 0 ∷ []
-unfolding recordOf
-example-answer = refl
-
--- a number is read back from its four bytes
-pub number-back : (n : ℕ) → n < 4294967296 → numberAt (little n) 0 ≡ n
-number-back n h =
-    let two : n % 65536 ≡ n / 256 % 256 * 256 + n % 256 = mod-mul n {m = 256} {c = 256} (omega arith) (omega arith) in
-    let three : n % 16777216 ≡ n / 65536 % 256 * 65536 + n % 65536 = mod-mul n {m = 256} {c = 65536} (omega arith) (omega arith) in
-    let four : n % 4294967296 ≡ n / 16777216 % 256 * 16777216 + n % 16777216 = mod-mul n {m = 256} {c = 16777216} (omega arith) (omega arith) in
-    omega (arith, two, three, four, mod-eq-of-lt h)
-
--- and so are the numbers of an answer from its record
-pub answer-back : (n : AnswerNumbers) → InRecord n
-    → (numberAt (recordFor n) 4 ≡ n .settled) × (numberAt (recordFor n) 8 ≡ n .number) × (numberAt (recordFor n) 12 ≡ n .length)
-answer-back n fits = (
-  number-back (n .settled) (omega (arith, fits .settled-fits)),
-  number-back (n .number) (omega (arith, fits .number-fits)),
-  number-back (n .length) (omega (arith, fits .length-fits)),
-)
+-- and for `keep_tail`
+pub one-kept : (buffer : List ℕ) (from end : ℕ) {n k : ℕ} {buffer₁ buffer₂ : List ℕ} → IsKept buffer from end n buffer₁ → IsKept buffer from end k buffer₂
+    → (n ≡ k) × (buffer₁ ≡ buffer₂)
+one-kept buffer from end x y = let same = x .count ∙ sym (y .count) in (same, x .leaves ∙ rw same (sym (y .leaves)))

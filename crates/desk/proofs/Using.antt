@@ -1,10 +1,10 @@
--- What a text comes to: it is too long, the reader refuses it, a side of it is too great, or it is a map that can be used.
+-- What a text comes to: it is too long, the reader refuses it, a side of it is too great, or it is a map that can be used; and what such a map has.
 use mathlib.Core.Path.{_≡_, refl, sym, _∙_, ap}
 use mathlib.Core.Bool.{Bool, true, false, cond, _||_}
 use mathlib.Core.List.{List}
 use Prim.Native.Nat.{ℕ, _≤_, _<_}
 use native.Mathlib.Omega.{arith}
-use borrow.Author.Tests.{lt-ltb, le-ltb}
+use borrow.Author.Tests.{lt-ltb, le-ltb, ltb-false}
 use lib.Dec.{ltb}
 use lib.ListN.{length}
 use Rattle.floor.specs.declared.Floor.{Floor}
@@ -14,6 +14,10 @@ use Rattle.maptext.specs.declared.Read.the-variants.{Map}
 use Rattle.maptext.specs.Reading.{Reading, refused, read, readingOf, numbersOf, readFor, cellsLeft, IsRead}
 use Rattle.maptext.proofs.Storing.{HasMap, has-map, cells-fit}
 use Rattle.desk.specs.Use.{greatestText, greatestUsedSide, withinSides, usedOf, IsUsed}
+
+neither : (a b : Bool) → (a || b) ≡ false → (a ≡ false) × (b ≡ false)
+neither false b e = (refl, e)
+neither true b e = let z : _≡_ {A = ℕ} 0 1 = cc in absurd (omega arith)
 
 refused-is : (x : Reading) (n p : ℕ) → numbersOf (Read.Refused n p) ≡ readFor x → x ≡ refused n p
 refused-is (refused a b) n p e = let f : n ≡ a = cc in let g : p ≡ b = cc in rw (f, g)
@@ -52,20 +56,36 @@ module _ (text room : List ℕ) where
             (y .answers)
             (y .leaves)
 
--- a map that can be used was read, and its cells are in the room
-pub used-fits : (text : List ℕ) (room : ℕ) (f : Floor) {r : Read} → r ≡ Map f → numbersOf r ≡ readFor (usedOf text room) → cells f ≤ room
-unfolding usedOf
-used-fits text room f given e =
-    cells-fit (has-map text room f refl (long (ltb greatestText (length text)) (ap numbersOf (sym given) ∙ e)))
-  where
-    wide : (x : Reading) → numbersOf (Map f) ≡ readFor (withinSides x) → numbersOf (Map f) ≡ readFor x
-    wide (refused n p) e = e
-    wide (read w h m) e = go (ltb greatestUsedSide w || ltb greatestUsedSide h) e
-      where
-        go : (b : Bool) → numbersOf (Map f) ≡ readFor (cond b (refused 14 0) (read w h m)) → numbersOf (Map f) ≡ readFor (read w h m)
-        go true e = let z : _≡_ {A = ℕ} 0 1 = cc in absurd (omega arith)
-        go false e = e
+-- a map that can be used was read, and its sides are not too great
+pub record CanUse (text : List ℕ) (room : ℕ) (f : Floor) : Type 0 where
+  pub read-as : numbersOf (Map f) ≡ readFor (readingOf text room)
+  pub narrow : f .width ≤ greatestUsedSide
+  pub low : f .height ≤ greatestUsedSide
 
-    long : (b : Bool) → numbersOf (Map f) ≡ readFor (cond b (refused 14 0) (withinSides (readingOf text room))) → numbersOf (Map f) ≡ readFor (readingOf text room)
+pub can-use : (text : List ℕ) (room : ℕ) (f : Floor) → numbersOf (Map f) ≡ readFor (usedOf text room) → CanUse text room f
+unfolding usedOf
+can-use text room f e = long (ltb greatestText (length text)) e
+  where
+    sides : (x : Reading) → readingOf text room ≡ x → numbersOf (Map f) ≡ readFor (withinSides x) → CanUse text room f
+    sides (refused n p) r e = let z : _≡_ {A = ℕ} 0 1 = cc in absurd (omega arith)
+    sides (read w h m) r e = go (ltb greatestUsedSide w || ltb greatestUsedSide h) refl e
+      where
+        go : (b : Bool) → (ltb greatestUsedSide w || ltb greatestUsedSide h) ≡ b → numbersOf (Map f) ≡ readFor (cond b (refused 14 0) (read w h m)) → CanUse text room f
+        go true t e = let z : _≡_ {A = ℕ} 0 1 = cc in absurd (omega arith)
+        go false t e =
+            let width : f .width ≡ w = cc in
+            let height : f .height ≡ h = cc in
+            let both = neither (ltb greatestUsedSide w) (ltb greatestUsedSide h) t in
+            record {
+              read-as = rw r e;
+              narrow = rw width (ltb-false greatestUsedSide w (both .0));
+              low = rw height (ltb-false greatestUsedSide h (both .1));
+            }
+
+    long : (b : Bool) → numbersOf (Map f) ≡ readFor (cond b (refused 14 0) (withinSides (readingOf text room))) → CanUse text room f
     long true e = let z : _≡_ {A = ℕ} 0 1 = cc in absurd (omega arith)
-    long false e = wide (readingOf text room) e
+    long false e = sides (readingOf text room) refl e
+
+-- its cells are in the room
+pub used-fits : (text : List ℕ) (room : ℕ) (f : Floor) {r : Read} → r ≡ Map f → numbersOf r ≡ readFor (usedOf text room) → cells f ≤ room
+used-fits text room f given e = cells-fit (has-map text room f refl (can-use text room f (ap numbersOf (sym given) ∙ e) .read-as))

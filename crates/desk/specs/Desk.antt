@@ -8,7 +8,7 @@ use Rattle.floor.specs.declared.Floor.{Floor}
 use Rattle.floor.specs.Place.{floorOf}
 use Rattle.search.specs.declared.Answer.{Answer}
 use Rattle.search.specs.Search.{Rooms, Searched}
-use Rattle.desk.specs.Record.{recordSize, questionIn, waysIn, endsInZeros, recordOf}
+use Rattle.recordlayout.specs.Record.{recordSize, questionIn, waysIn, endsInZeros, recordOf}
 
 -- the floor with the ways of a question
 abbrev pub withWays : Floor → ℕ → Floor

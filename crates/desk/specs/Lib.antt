@@ -1,4 +1,5 @@
 pub mod Use
-pub mod Record
 pub mod Desk
+pub mod Turn
+pub mod Room
 pub mod Working

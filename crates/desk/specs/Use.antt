@@ -2,7 +2,7 @@
 use mathlib.Core.Path.{_≡_}
 use mathlib.Core.Bool.{cond, _||_}
 use mathlib.Core.List.{List}
-use Prim.Native.Nat.{ℕ}
+use Prim.Native.Nat.{ℕ, _*_}
 use lib.Dec.{ltb}
 use lib.ListN.{length}
 use Rattle.maptext.specs.declared.Read.{Read}
@@ -13,6 +13,9 @@ greatestText = 4195
 
 abbrev pub greatestUsedSide : ℕ
 greatestUsedSide = 64
+
+abbrev pub greatestUsedCells : ℕ
+greatestUsedCells = greatestUsedSide * greatestUsedSide
 
 -- 14: a side is too great for the program
 abbrev pub withinSides : Reading → Reading

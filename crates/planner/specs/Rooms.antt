@@ -1,8 +1,7 @@
--- What is read lies in the room that it is read into, and what is kept stands at the room's front.
-use mathlib.Core.Path.{_≡_}
+-- What is read lies in the room that it is read into.
 use mathlib.Core.List.{List}
-use Prim.Native.Nat.{ℕ, _+_, _-_, _≤_, _<_}
-use lib.ListN.{length, take, drop}
+use Prim.Native.Nat.{ℕ, _+_, _≤_, _<_}
+use lib.ListN.{length}
 use Rattle.planner.specs.declared.Piece.{Piece}
 use Rattle.planner.specs.declared.Piece.the-variants.{Bytes, End, Failure}
 use Rattle.planner.specs.declared.Text.{Text}
@@ -21,9 +20,3 @@ abbrev pub textAtEnd : Piece → ℕ → Text
 textAtEnd (Bytes n) have = Length have
 textAtEnd End have = Length have
 textAtEnd Failure have = Unread
-
--- the bytes from `from` up to `end`, n of them, stand at the front now
-pub record IsKept (bytes : List ℕ) (from end n : ℕ) (bytes′ : List ℕ) : Type 0 where
-  pub count : n ≡ end - from
-  pub kept : take n bytes′ ≡ take n (drop from bytes)
-  pub inside : n ≤ length bytes′

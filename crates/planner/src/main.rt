@@ -1,9 +1,18 @@
 // The program: 01, "The program". It reads `floor.map`, then answers question records from standard input. All that it says is decided in `desk`.
 ghost use mathlib.Core.Path.{_≡_};
-ghost use Prim.Native.Nat.{_≤_};
-ghost use lib.ListN.{length};
-ghost use Rattle.planner.specs.Rooms.{PieceIn, TextIn, textAtEnd, IsKept};
-use desk::answer_records;
+ghost use mathlib.Core.List.{[]};
+ghost use Prim.Native.Nat.{_≤_, _<_};
+ghost use lib.ListN.{length, take};
+ghost use Rattle.search.specs.Search.{rooms};
+ghost use Rattle.recordlayout.specs.Record.{recordSize};
+ghost use Rattle.desk.specs.Use.{greatestText, greatestUsedCells};
+ghost use Rattle.desk.specs.Room.{EnoughRoom};
+ghost use Rattle.planner.specs.Rooms.{PieceIn, TextIn, textAtEnd};
+ghost use Rattle.planner.specs.SoFar.{TurnTaken, SomeTurn, AllSoFar};
+use desk::GREATEST_TEXT;
+use desk::GREATEST_USED_CELLS;
+use desk::answer_arrived;
+use desk::keep_tail;
 use desk::use_map;
 use floor::Floor;
 use libc::STDIN_FILENO;
@@ -41,10 +50,10 @@ fn print_refused(number: u32, place: usize) {
     print(b"\n");
 }
 
-// One read into the room from `have` on.
+// One read into the room from `have` on. There is room for a byte at least: else no bytes would not mean that the input has ended.
 fn read_piece(file: i32, room: &mut [u8], have: usize) -> Piece
-    requires { ⌜ have ≤ length (now room) ⌝ }
-    ensures { λ r. ⌜ PieceIn (now (room .exit)) have r ⌝ }
+    requires { ⌜ have < length (now room) ⌝ }
+    ensures { λ r. ⌜ PieceIn (now (room .exit)) have r × (take have (now (room .exit)) ≡ take have (now (room .entry))) ⌝ }
 {
     let got = libc::read(file, &mut room[have..]);
     if got < 0 {
@@ -83,8 +92,9 @@ fn read_text(file: i32, room: &mut [u8]) -> Text
     Text::Length(have)
 }
 
-// A folder can be opened and not be read: there is no map then either.
+// A folder can be opened and not be read: there is no map then either. If the room is filled, the text is too long, whatever else the file has.
 fn read_file(room: &mut [u8]) -> Text
+    requires { ⌜ greatestText < length (now room) ⌝ }
     ensures { λ r. ⌜ TextIn (now (room .exit)) r ⌝ }
 {
     let file = os::open_read(b"floor.map");
@@ -96,22 +106,8 @@ fn read_file(room: &mut [u8]) -> Text
     text
 }
 
-// Moves the buffer's bytes from `from` up to `end` to its front.
-fn keep_tail(buffer: &mut [u8], from: usize, end: usize) -> usize
-    requires { ⌜ (from ≤ end) × (end ≤ length (now buffer)) ⌝ }
-    ensures { λ r. ⌜ IsKept (now (buffer .entry)) from end r (now (buffer .exit)) ⌝ }
-{
-    let count = end - from;
-    let mut i = 0;
-    while i < count {
-        buffer[i] = buffer[from + i];
-        i += 1;
-    }
-    count
-}
-
-// Answers the whole records among the first `end` bytes of the buffer, and gives the number of bytes that are answers now.
-fn answer_arrived(
+// Answers every whole record among the first `end` bytes of the buffer, which have arrived, writes the answers, and keeps a broken last record.
+fn answer_piece(
     f: Floor,
     map: &[u8],
     buffer: &mut [u8],
@@ -119,11 +115,13 @@ fn answer_arrived(
     costs: &mut [u32],
     work: &mut [u32],
     route: &mut [u8],
-) -> usize
-    requires { ⌜ end ≤ length (now buffer) ⌝ }
-    ensures { λ r. ⌜ r ≤ end ⌝ }
+) -> Turn
+    ensures { λ r. ⌜ TurnTaken f (now (map .entry)) [] (take end (now (buffer .entry))) (rooms (now (costs .entry)) (now (work .entry)) (now (route .entry))) (r .kept) (now (buffer .exit)) (rooms (now (costs .exit)) (now (work .exit)) (now (route .exit))) ⌝ }
 {
-    answer_records(f, map, &mut buffer[0..end], costs, work, route)
+    let answered = answer_arrived(f, map, buffer, end, costs, work, route);
+    let more = io::write_all(STDOUT_FILENO, &buffer[0..answered]);
+    let kept = keep_tail(buffer, answered, end);
+    Turn { kept, more }
 }
 
 // Reads what has arrived, which may be little, and answers every whole record of it before more is asked for.
@@ -136,24 +134,18 @@ fn take_turn(
     work: &mut [u32],
     route: &mut [u8],
 ) -> Turn
-    requires { ⌜ kept ≤ length (now buffer) ⌝ }
-    ensures { λ r. ⌜ r .kept ≤ length (now (buffer .exit)) ⌝ }
+    requires { ⌜ (kept < recordSize) × (recordSize ≤ length (now buffer)) ⌝ }
+    ensures { λ r. ⌜ SomeTurn f (now (map .entry)) (take kept (now (buffer .entry))) (rooms (now (costs .entry)) (now (work .entry)) (now (route .entry))) r (now (buffer .exit)) (rooms (now (costs .exit)) (now (work .exit)) (now (route .exit))) ⌝ }
 {
     let piece = read_piece(STDIN_FILENO, buffer, kept);
     let Piece::Bytes(arrived) = piece else {
         return Turn { kept, more: false };
     };
-    let end = kept + arrived;
-    let answered = answer_arrived(f, map, buffer, end, costs, work, route);
-    if io::write_all(STDOUT_FILENO, &buffer[0..answered]) {
-        return Turn {
-            kept: keep_tail(buffer, answered, end),
-            more: true,
-        };
-    }
-    Turn { kept, more: false }
+    answer_piece(f, map, buffer, kept + arrived, costs, work, route)
 }
 
+// What was written so far are the answers to the whole records among all bytes that have arrived so far. Gives the length of a broken last record,
+// which got no answer.
 // A proved loop has to end, and nothing says that the input does: it counts down from a number that no run uses up.
 fn answer_all(
     f: Floor,
@@ -162,31 +154,37 @@ fn answer_all(
     costs: &mut [u32],
     work: &mut [u32],
     route: &mut [u8],
-) {
+) -> usize
+    requires { ⌜ (recordSize ≤ length (now buffer)) × EnoughRoom (rooms (now costs) (now work) (now route)) ⌝ }
+    ensures { λ r. ⌜ AllSoFar f (now (map .entry)) (rooms (now (costs .entry)) (now (work .entry)) (now (route .entry))) r (now (buffer .exit)) (rooms (now (costs .exit)) (now (work .exit)) (now (route .exit))) ⌝ }
+{
     let mut kept = 0;
     let mut turns = u64::MAX;
     while 0 < turns {
         let turn = take_turn(f, map, buffer, kept, costs, work, route);
-        if !turn.more {
-            return;
-        }
         kept = turn.kept;
+        if !turn.more {
+            return kept;
+        }
         turns -= 1;
     }
+    kept
 }
 
-// The rooms are those of a floor of 64 by 64, made once; the buffer has 64 KiB, so that many records cost one call.
+// The rooms are those of the greatest floor, made once; the buffer has 64 KiB, so that many records cost one call.
 fn answer_questions(f: Floor, map: &[u8]) {
     let mut buffer = [0u8; 65536];
-    let mut costs = [0u32; 4096];
-    let mut work = [0u32; 8192];
-    let mut route = [0u8; 4096];
+    let mut costs = [0u32; GREATEST_USED_CELLS];
+    let mut work = [0u32; 2 * GREATEST_USED_CELLS];
+    let mut route = [0u8; GREATEST_USED_CELLS];
     answer_all(f, map, &mut buffer, &mut costs, &mut work, &mut route);
 }
 
-fn use_text(text: &[u8]) {
-    let mut cells = [0u8; 4096];
-    let read = use_map(text, &mut cells);
+// 01: the reader has a cell room of 4,096.
+fn use_text(text: &[u8], cells: &mut [u8])
+    requires { ⌜ length (now cells) ≡ greatestUsedCells ⌝ }
+{
+    let read = use_map(text, cells);
     match read {
         Read::Refused(number, place) => print_refused(number, place),
         Read::Map(f) => {
@@ -200,10 +198,11 @@ fn use_text(text: &[u8]) {
 
 fn main() {
     // One byte more than the longest text: if that is read too, the text is too long.
-    let mut room = [0u8; 4196];
+    let mut room = [0u8; GREATEST_TEXT + 1];
+    let mut cells = [0u8; GREATEST_USED_CELLS];
     let text = read_file(&mut room);
     match text {
         Text::Unread => print(b"map missing\n"),
-        Text::Length(length) => use_text(&room[0..length]),
+        Text::Length(length) => use_text(&room[0..length], &mut cells),
     }
 }

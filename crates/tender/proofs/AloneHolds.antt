@@ -10,9 +10,9 @@ use lib.Seq.{take-all, take-at, drop-at, drop-length, drop-drop}
 use Rattle.floor.specs.declared.Floor.{Floor}
 use Rattle.search.specs.declared.Answer.{Answer}
 use Rattle.search.specs.Search.{Rooms}
-use Rattle.desk.specs.Record.{recordSize, questionIn, waysIn, endsInZeros, recordOf}
+use Rattle.recordlayout.specs.Record.{recordSize, questionIn, waysIn, endsInZeros, recordOf}
 use Rattle.desk.specs.Desk.{withWays, Asked, no-zeros, searched, Answered, wholeRecords, recordAt, IsAnswered}
-use Rattle.desk.proofs.Buffers.{record-length}
+use Rattle.recordlayout.proofs.Records.{record-length}
 use Rattle.tender.specs.SearchTable.{SameLengths}
 use Rattle.tender.specs.Alone.{AsIfAlone}
 use Rattle.tender.proofs.Searches.{a-search, same-answer, same-written}

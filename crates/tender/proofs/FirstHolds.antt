@@ -34,7 +34,7 @@ use Rattle.search.specs.declared.AnswerNumbers.{AnswerNumbers}
 use Rattle.search.specs.Search as answer
 use Rattle.search.specs.Search.{Question, Rooms, searchLines, rowOf, answered, Searched, refused, passed, Called}
 use Rattle.search.proofs.Promise.{by-refusal}
-use Rattle.desk.specs.Record.{questionIn, waysIn, recordOf}
+use Rattle.recordlayout.specs.Record.{questionIn, waysIn, recordOf}
 use Rattle.desk.specs.Desk.{withWays, Asked, no-zeros, searched, wholeRecords, recordAt, IsAnswered}
 use Rattle.tender.specs.SearchTable.{SameLengths}
 use Rattle.tender.specs.FirstCondition.{Refuses, SaysRefused, IsRefusable, zeros-missing, not-searched, FirstCondition}

@@ -8,9 +8,9 @@ use lib.Seq.{take-at, drop-at, drop-drop}
 use Rattle.floor.specs.declared.Floor.{Floor}
 use Rattle.search.specs.declared.Answer.{Answer}
 use Rattle.search.specs.Search.{Rooms, numbersOf}
-use Rattle.desk.specs.Record.{recordSize, recordFor, recordOf}
+use Rattle.recordlayout.specs.Record.{recordSize, recordFor, recordOf}
 use Rattle.desk.specs.Desk.{Asked, no-zeros, searched, Answered, recordAt}
-use Rattle.desk.proofs.Buffers.{record-length}
+use Rattle.recordlayout.proofs.Records.{record-length}
 use Rattle.tender.specs.SearchTable.{SameLengths}
 use Rattle.tender.proofs.Searches.{search-lengths}
 

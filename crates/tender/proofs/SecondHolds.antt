@@ -27,7 +27,7 @@ use Rattle.claims.proofs.Collecting.{accepted-exactly, accepted-cost}
 use Rattle.search.specs.declared.Answer.{Answer}
 use Rattle.search.specs.Search.{Rooms, searchLines, numbersOf}
 use Rattle.search.proofs.Promise.{by-table}
-use Rattle.desk.specs.Record.{questionIn, waysIn, endsInZeros, recordOf}
+use Rattle.recordlayout.specs.Record.{questionIn, waysIn, endsInZeros, recordOf}
 use Rattle.desk.specs.Use.{greatestText, greatestUsedSide, withinSides, usedOf, IsUsed}
 use Rattle.desk.specs.Desk.{withWays, Asked, no-zeros, searched, wholeRecords}
 use Rattle.tender.specs.SearchTable.{SameLengths}

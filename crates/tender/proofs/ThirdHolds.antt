@@ -13,7 +13,7 @@ use Rattle.floor.proofs.Lengths.{cost-over-length, cost-under-length, floor-und
 use Rattle.search.specs.declared.Answer.{Answer}
 use Rattle.search.specs.declared.Answer.the-variants.{Found, None, Stopped}
 use Rattle.search.specs.Search.{Question, Rooms, Searched, numbersOf}
-use Rattle.desk.specs.Record.{questionIn, waysIn}
+use Rattle.recordlayout.specs.Record.{questionIn, waysIn}
 use Rattle.desk.specs.Desk.{withWays, Asked, no-zeros, searched, wholeRecords}
 use Rattle.tender.specs.ThirdCondition.{Measured, ThirdCondition}
 use Rattle.tender.proofs.Rowed.{found-route, stopped-below}

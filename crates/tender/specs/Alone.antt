@@ -9,7 +9,7 @@ use Rattle.floor.specs.Place.{cells}
 use Rattle.floor.specs.Refusal.{screen}
 use Rattle.search.specs.declared.Answer.{Answer}
 use Rattle.search.specs.Search.{Question, Rooms, searchLines, Searched, numbersOf}
-use Rattle.desk.specs.Record.{recordSize}
+use Rattle.recordlayout.specs.Record.{recordSize}
 use Rattle.desk.specs.Desk.{wholeRecords, recordAt, IsAnswered}
 use Rattle.tender.specs.SearchTable.{SameLengths}
 

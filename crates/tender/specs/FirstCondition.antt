@@ -29,7 +29,7 @@ use Rattle.search.specs.declared.AnswerNumbers.{AnswerNumbers}
 use Rattle.search.specs.Search as answer
 use Rattle.search.specs.Search.{Question, Rooms, searchLines, Searched, Called}
 use Rattle.desk.specs.Use.{greatestText, greatestUsedSide, IsUsed}
-use Rattle.desk.specs.Record.{questionIn, waysIn, endsInZeros, recordOf}
+use Rattle.recordlayout.specs.Record.{questionIn, waysIn, endsInZeros, recordOf}
 use Rattle.desk.specs.Desk.{withWays, Asked, wholeRecords, recordAt, IsAnswered}
 
 -- `refused n p`: the answer is refusal n with place p; `due n p`: 01 says so; `same`: every lent room is as it was

@@ -30,7 +30,7 @@ use Rattle.claims.specs.Table.{tableLines, tableVerdict}
 use Rattle.search.specs.declared.Answer.{Answer}
 use Rattle.search.specs.declared.AnswerNumbers.{AnswerNumbers}
 use Rattle.search.specs.Search.{Question, Rooms, searchLines, Searched, numbersOf, Called}
-use Rattle.desk.specs.Record.{questionIn, waysIn, endsInZeros, recordFor}
+use Rattle.recordlayout.specs.Record.{questionIn, waysIn, endsInZeros, recordFor}
 use Rattle.desk.specs.Use.{IsUsed}
 use Rattle.desk.specs.Desk.{withWays, wholeRecords, recordAt, IsAnswered}
 use Rattle.tender.specs.SearchTable.{SameLengths, TableHolds}

@@ -11,7 +11,7 @@ use Rattle.floor.specs.Step.{graph}
 use Rattle.search.specs.declared.Answer.{Answer}
 use Rattle.search.specs.declared.AnswerNumbers.{AnswerNumbers}
 use Rattle.search.specs.Search.{Question, Rooms, Searched, numbersOf, Called}
-use Rattle.desk.specs.Record.{questionIn, waysIn, recordFor}
+use Rattle.recordlayout.specs.Record.{questionIn, waysIn, recordFor}
 use Rattle.desk.specs.Desk.{withWays, wholeRecords, recordAt, IsAnswered}
 
 -- the square of a route's true length, times k

@@ -1,24 +1,26 @@
--- It is safe and ends: what is kept lies in the buffer, and no room changes its length. The measure is how many turns are left.
+-- The invariant: all that came so far is answered, but for the bytes kept, and no room changes its length. The measure is how many turns are left.
 use mathlib.Core.Path.{_≡_, refl, _∙_}
-use Prim.Native.Nat.{_≤_}
 use native.Mathlib.Omega.{arith}
 use borrow.Author.Needs.{needs}
 use lib.ListN.{length}
+use Rattle.search.specs.Search.{rooms}
+use Rattle.planner.specs.SoFar.{AllSoFar}
+use Rattle.planner.proofs.Pieces.{run-none, run-on}
 use Rattle.planner.proofs.answer_all.Statement.{statement}
 use Rattle.planner.proofs.answer_all.Tie as tie
 
 abbrev Inv-loop : tie.InvT-loop
 Inv-loop f map buffer₀ costs₀ work₀ route₀ kept₀ turns₀ buffer costs work route kept turns =
-    (kept ≤ length buffer) × (length buffer ≡ length buffer₀) × (length costs ≡ length costs₀) × (length work ≡ length work₀) × (length route ≡ length route₀)
+    AllSoFar f map (rooms costs₀ work₀ route₀) kept buffer (rooms costs work route) × (length buffer ≡ length buffer₀) × (length costs ≡ length costs₀) × (length work ≡ length work₀) × (length route ≡ length route₀)
 
 abbrev μ-loop : tie.MeasureT-loop
 μ-loop f map buffer₀ costs₀ work₀ route₀ kept₀ turns₀ buffer costs work route kept turns = turns
 
 loop-holds : tie.Need-loop-holds Inv-loop μ-loop
-loop-holds c = (omega arith, refl, refl, refl, refl)
+loop-holds c = (run-none _ _, refl, refl, refl, refl)
 
 take-turn-requires : tie.Need-take-turn-requires Inv-loop μ-loop
-take-turn-requires c κs = c .before .before .before .before .before .loop .inv .0
+take-turn-requires c κs = let i = c .before .before .before .before .before .loop .inv in (i .0 .taken .broken, omega (arith, i .1))
 
 same-length : tie.Need-same-length Inv-loop μ-loop
 same-length c = c .before .before .before .before .before .before .before .before .before .before .take-turn .kept .1 .1 .0 ∙ c .before .before .before .before .before .before .before .before .before .before .before .before .before .before .before .before .loop .inv .1
@@ -33,7 +35,7 @@ same-length-4 : tie.Need-same-length-4 Inv-loop μ-loop
 same-length-4 c = c .before .before .before .before .before .before .before .before .before .before .take-turn .kept .1 .1 .1 .1 .1 .1 .0 ∙ c .before .before .before .before .before .before .before .before .before .before .before .before .before .before .before .before .loop .inv .4
 
 returns : tie.Need-returns Inv-loop μ-loop
-returns c = search needs
+returns c = let t = c .before .before .before .before .before .before .before .before .before .before in run-on (t .before .before .before .before .before .before .loop .inv .0) (t .take-turn .ensures)
 
 sub-turns : tie.Need-sub-turns Inv-loop μ-loop
 sub-turns c = omega arith
@@ -45,7 +47,7 @@ loop-again : tie.Need-loop-again Inv-loop μ-loop
 loop-again c =
     let t = c .before .before .before .before .before .before .before .before .before .before .take-turn in
     let i = c .before .before .before .before .before .before .before .before .before .before .before .before .before .before .before .before .loop .inv in
-    (t .ensures, t .kept .1 .1 .0 ∙ i .1, t .kept .1 .1 .1 .1 .0 ∙ i .2, t .kept .1 .1 .1 .1 .1 .0 ∙ i .3, t .kept .1 .1 .1 .1 .1 .1 .0 ∙ i .4)
+    (run-on (i .0) (t .ensures), t .kept .1 .1 .0 ∙ i .1, t .kept .1 .1 .1 .1 .0 ∙ i .2, t .kept .1 .1 .1 .1 .1 .0 ∙ i .3, t .kept .1 .1 .1 .1 .1 .1 .0 ∙ i .4)
 
 same-length-5 : tie.Need-same-length-5 Inv-loop μ-loop
 same-length-5 c = c .before .loop .inv .1
@@ -60,7 +62,7 @@ same-length-8 : tie.Need-same-length-8 Inv-loop μ-loop
 same-length-8 c = c .before .loop .inv .4
 
 returns-2 : tie.Need-returns-2 Inv-loop μ-loop
-returns-2 c = search needs
+returns-2 c = c .before .loop .inv .0
 
 pub answer-all-spec : {M : Type 1} → statement M
 answer-all-spec =

@@ -30,7 +30,12 @@ part-use-text-start : tie.Need-part-use-text-start
 part-use-text-start c = search needs
 
 part-use-text-end : tie.Need-part-use-text-end
-part-use-text-end c = subst (TextIn (c .before .before .before .before .before .read-file .last .0)) (c .before .before .text .given .1) (c .before .before .before .before .before .read-file .ensures)
+part-use-text-end c =
+    let f = c .before .before .before .before .before .read-file in
+    subst (TextIn (f .last .0)) (c .before .before .text .given .1) (f .ensures)
+
+slice-aggregate-use-text : tie.Need-slice-aggregate-use-text
+slice-aggregate-use-text c = search needs
 
 use-text-requires : tie.Need-use-text-requires
 use-text-requires c κs = search needs
@@ -54,6 +59,7 @@ main-spec =
     sub-use-text
     part-use-text-start
     part-use-text-end
+    slice-aggregate-use-text
     use-text-requires
     returns
     returns-2)

@@ -44,7 +44,7 @@ brought : (c : tie.After-known-told Inv-loop μ-loop) →
     PieceIn (p .read-piece .last .1 .0) (p .before .before .before .loop .have) (Bytes (c .before .piece .given .0 .0))
 brought c =
     let p = c .before .before .before .before .before in
-    subst (PieceIn (p .read-piece .last .1 .0) (p .before .before .before .loop .have)) (c .before .piece .given .1) (p .read-piece .ensures)
+    subst (PieceIn (p .read-piece .last .1 .0) (p .before .before .before .loop .have)) (c .before .piece .given .1) (p .read-piece .ensures .0)
 
 add-have : tie.Need-add-have Inv-loop μ-loop
 add-have c = omega (arith, brought c .1)

@@ -1,14 +1,12 @@
 -- A map that can be used has its cells in the room.
-use Prim.Native.Nat.{ℕ, _*_, _≤_}
+use mathlib.Core.Path.{sym, _∙_}
+use Prim.Native.Nat.{_*_, _≤_}
 use native.Mathlib.Omega.{arith}
 use borrow.Author.Needs.{needs}
-use lib.ListN.{length, length-replicate}
+use lib.ListN.{length}
 use Rattle.desk.proofs.Using.{used-fits}
 use Rattle.planner.proofs.use_text.Statement.{statement}
 use Rattle.planner.proofs.use_text.Tie as tie
-
-slice-aggregate-use-map : tie.Need-slice-aggregate-use-map
-slice-aggregate-use-map c = search needs
 
 use-map-requires : tie.Need-use-map-requires
 use-map-requires c κs = search needs
@@ -23,14 +21,14 @@ enum-known-read-2 : tie.Need-enum-known-read-2
 enum-known-read-2 c = search needs
 
 -- the cells of a map that can be used are in the room
-fits : (c : tie.After-known-told2) → let f = c .before .read2 .given .0 .0 in f .width * f .height ≤ length (c .before .before .before .before .use-map .last .1 .0)
+fits : (c : tie.After-known-told2) → let f = c .before .read2 .given .0 .0 in f .width * f .height ≤ length (c .before .before .before .before .before .use-map .last .1 .0)
 fits c =
-    let u = c .before .before .before .before .use-map in
+    let u = c .before .before .before .before .before .use-map in
     let f = c .before .read2 .given .0 .0 in
     rw (u .kept .1 .0) (used-fits _ _ f (c .before .read2 .given .1) (u .ensures .answers))
 
 mul-size : tie.Need-mul-size
-mul-size c = omega (arith, fits c, c .before .before .before .before .use-map .kept .1 .0, length-replicate {A = ℕ} 4096 0)
+mul-size c = omega (arith, fits c, c .before .before .before .before .before .use-map .kept .1 .0)
 
 sub-answer-questions : tie.Need-sub-answer-questions
 sub-answer-questions c = search needs
@@ -44,8 +42,14 @@ part-answer-questions-end c = fits (c .before)
 answer-questions-requires : tie.Need-answer-questions-requires
 answer-questions-requires c κs = search needs
 
+same-length : tie.Need-same-length
+same-length c = search needs
+
 returns : tie.Need-returns
 returns c = search needs
+
+same-length-2 : tie.Need-same-length-2
+same-length-2 c = search needs
 
 returns-2 : tie.Need-returns-2
 returns-2 c = search needs
@@ -54,7 +58,6 @@ pub use-text-spec : {M : Type 1} → statement M
 use-text-spec =
     tie.close
     (tie.spec
-    slice-aggregate-use-map
     use-map-requires
     enum-known-read
     print-refused-requires
@@ -64,5 +67,7 @@ use-text-spec =
     part-answer-questions-start
     part-answer-questions-end
     answer-questions-requires
+    same-length
     returns
+    same-length-2
     returns-2)

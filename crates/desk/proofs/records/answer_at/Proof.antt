@@ -1,7 +1,7 @@
 -- The record's bytes are the question; the answer's numbers have room in it, and it is stored in the question's place.
 use Prim.Native.Nat.{_+_, _-_}
 use borrow.Author.Needs.{needs}
-use Rattle.desk.specs.Record.{recordSize}
+use Rattle.recordlayout.specs.Record.{recordSize}
 use Rattle.desk.proofs.Fitting.{answers-fit, small-part}
 use Rattle.desk.proofs.Buffers.{answered-at}
 use Rattle.desk.proofs.records.answer_at.Statement.{statement}

@@ -2,7 +2,7 @@
 use mathlib.Core.Path.{_≡_, refl, sym, ap, _∙_}
 use borrow.Author.Needs.{needs}
 use borrow.Rule.Slice.PartAt.{part-to-end}
-use Rattle.desk.specs.Record.{allZero, endsInZeros}
+use Rattle.recordlayout.specs.Record.{allZero, endsInZeros}
 use Rattle.desk.specs.Desk.{no-zeros}
 use Rattle.desk.proofs.Asking.{asked-as-read}
 use Rattle.desk.proofs.records.ask.Statement.{statement}

@@ -8,7 +8,7 @@ use native.Mathlib.Numerals.{add-one}
 use borrow.Author.Tests.{eq-eqb, ne-eqb}
 use lib.ListN.{length, getD, drop, drop-of-length-le}
 use lib.Seq.{drop-cons}
-use Rattle.desk.specs.Record.{allZero}
+use Rattle.recordlayout.specs.Record.{allZero}
 
 module _ (bytes : List ℕ) (i : ℕ) where
   pub zero-here : i < length bytes → getD bytes i 0 ≡ 0 → allZero (drop i bytes) ≡ allZero (drop (i + 1) bytes)

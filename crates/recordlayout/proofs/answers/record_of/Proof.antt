@@ -2,10 +2,10 @@
 use mathlib.Core.Path.{sym, ap, _∙_, subst}
 use native.Mathlib.Omega.{arith}
 use borrow.Author.Needs.{needs}
-use Rattle.desk.specs.Record.{recordOf}
-use Rattle.desk.specs.Working.{SmallRefusal}
-use Rattle.desk.proofs.records.record_of.Statement.{statement}
-use Rattle.desk.proofs.records.record_of.Tie as tie
+use Rattle.recordlayout.specs.Record.{recordOf}
+use Rattle.recordlayout.specs.Fields.{SmallRefusal}
+use Rattle.recordlayout.proofs.answers.record_of.Statement.{statement}
+use Rattle.recordlayout.proofs.answers.record_of.Tie as tie
 
 enum-known-answer : tie.Need-enum-known-answer
 enum-known-answer c = search needs

@@ -5,9 +5,9 @@ use Prim.Native.Nat.{ℕ, suc, _+_, _-_, _≤_}
 use native.Mathlib.Omega.{arith}
 use lib.ListN.{length, getD, set, length-set}
 use lib.Seq.{paste, paste-zero, paste-suc}
-use Rattle.desk.specs.Record.{recordSize}
-use Rattle.desk.proofs.records.store.Statement.{statement}
-use Rattle.desk.proofs.records.store.Tie as tie
+use Rattle.recordlayout.specs.Record.{recordSize}
+use Rattle.recordlayout.proofs.answers.store.Statement.{statement}
+use Rattle.recordlayout.proofs.answers.store.Tie as tie
 
 abbrev Inv-loop : tie.InvT-loop
 Inv-loop answer records₀ at i₀ records i = (i ≤ recordSize) × (records ≡ paste records₀ at answer i) × (length records ≡ length records₀)

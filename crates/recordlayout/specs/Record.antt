@@ -1,10 +1,9 @@
 -- Question and answer records: 01, "The program".
 use mathlib.Core.Bool.{Bool, true, _&&_}
 use mathlib.Core.List.{List, [], _∷_, _++_}
-use Prim.Native.Nat.{ℕ, _+_, _*_, _/_, _%_, _≤_, _<_}
+use Prim.Native.Nat.{ℕ, _+_, _*_, _/_, _%_}
 use lib.Dec.{eqb}
 use lib.ListN.{getD, drop}
-use Rattle.paths.specs.Graph.{MARK}
 use Rattle.search.specs.declared.Answer.{Answer}
 use Rattle.search.specs.declared.AnswerNumbers.{AnswerNumbers}
 use Rattle.search.specs.Search.{Question, question, numbersOf}
@@ -39,11 +38,3 @@ recordFor n = n .kind ∷ n .refusal ∷ 0 ∷ 0 ∷ little (n .settled) ++ litt
 
 unfoldable pub recordOf : Answer → List ℕ
 recordOf a = recordFor (numbersOf a)
-
--- the numbers have room in the record's fields (proofs/Fitting.antt, answers-fit)
-pub record InRecord (n : AnswerNumbers) : Type 0 where
-  pub kind-fits : n .kind < 256
-  pub refusal-fits : n .refusal < 256
-  pub settled-fits : n .settled ≤ MARK
-  pub number-fits : n .number ≤ MARK
-  pub length-fits : n .length ≤ MARK

@@ -3,10 +3,10 @@ use mathlib.Core.Path.{_≡_, refl, sym, _∙_}
 use Prim.Native.Nat.{_-_, _≤_}
 use native.Mathlib.Omega.{arith}
 use lib.ListN.{length, drop}
-use Rattle.desk.specs.Record.{allZero}
-use Rattle.desk.proofs.Zeros.{zero-here, other-here, none-left}
-use Rattle.desk.proofs.records.all_zero.Statement.{statement}
-use Rattle.desk.proofs.records.all_zero.Tie as tie
+use Rattle.recordlayout.specs.Record.{allZero}
+use Rattle.recordlayout.proofs.Zeros.{zero-here, other-here, none-left}
+use Rattle.recordlayout.proofs.fields.all_zero.Statement.{statement}
+use Rattle.recordlayout.proofs.fields.all_zero.Tie as tie
 
 abbrev Inv-loop : tie.InvT-loop
 Inv-loop bytes i₀ i = (i ≤ length bytes) × (allZero bytes ≡ allZero (drop i bytes))
