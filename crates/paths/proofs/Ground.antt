@@ -12,18 +12,10 @@ use Rattle.paths.specs.Below.{count}
 use Rattle.paths.specs.Graph.{Graph, Lawful, MARK}
 use Rattle.paths.specs.Route.{walks, ends, costOf, Route}
 use Rattle.paths.specs.Table.{Right}
+use Rattle.paths.specs.Sum.{Offers}
 use Rattle.paths.proofs.Bools.{T-and}
 use Rattle.paths.proofs.Below.{count-le, count-strict}
 use Rattle.paths.proofs.Walks.{snoc, stay, ending}
-
--- a step into v from a cell with a value, and the sum c that it offers
-pub record Offers (g : Graph) (t : List ℕ) (v c : ℕ) : Type 0 where
-  pub u : ℕ
-  pub d : ℕ
-  pub steps : T (g .allowed u d)
-  pub lands : g .to u d ≡ v
-  pub known : getD t u 0 ≢ MARK
-  pub sum : getD t u 0 + g .cost u d ≡ c
 
 -- a parent of v: the step from it offers v's own value
 abbrev pub Parent : Graph → List ℕ → ℕ → Type 0

@@ -11,10 +11,11 @@ use borrow.Author.Tests.{eq-eqb, ne-eqb}
 use lib.Dec.{T, eqb, eqb→eq}
 use lib.ListN.{getD}
 use Rattle.paths.specs.Graph.{Graph, Lawful, MARK}
+use Rattle.paths.specs.Sum.{Offers}
 use Rattle.paths.specs.Table.{Right, offer, smaller, smallest, due, keeps, Obeys}
 use Rattle.paths.proofs.Bools.{T-true, T-and, eq-T, not-eqb-ne, cond-some}
 use Rattle.paths.proofs.Walks.{snoc}
-use Rattle.paths.proofs.Ground.{Offers, Parent, Grounded, Tight, grounded-right, right-grounded, right-tight}
+use Rattle.paths.proofs.Ground.{Parent, Grounded, Tight, grounded-right, right-grounded, right-tight}
 
 some-inj : {a b : ℕ} → some a ≡ some b → a ≡ b
 some-inj e = cc

@@ -3,17 +3,12 @@ use mathlib.Core.Path.{_≡_, refl, sym, _∙_, subst}
 use mathlib.Core.Logic.{_↔_, _≢_}
 use mathlib.Core.List.{List}
 use mathlib.Core.Option.{Option, none, some}
-use Prim.Native.Nat.{ℕ, _≤_}
+use Prim.Native.Nat.{ℕ}
 use native.Mathlib.Omega.{arith}
 use Rattle.paths.specs.Graph.{Graph, Lawful, MARK}
 use Rattle.paths.specs.Table.{smallest, due}
-use Rattle.paths.proofs.Ground.{Offers}
+use Rattle.paths.specs.Sum.{Offers, IsSmallestSum, smallest-sum, no-sum}
 use Rattle.paths.proofs.Rule.{offer-is, smallest-is, offered, due-other}
-
--- c is "the smallest of value + step cost over cells with an allowed step into it whose value isn't MARK, or MARK if there is none"
-pub data IsSmallestSum (g : Graph) (t : List ℕ) (v c : ℕ) : Type 0 where
-  smallest-sum : Offers g t v c → ((b : ℕ) → Offers g t v b → c ≤ b) → IsSmallestSum g t v c
-  no-sum : ((b : ℕ) → Offers g t v b → ⊥) → c ≡ MARK → IsSmallestSum g t v c
 
 module _ {g : Graph} {least most : ℕ} (law : Lawful g least most) (s : ℕ) (t : List ℕ) (v : ℕ) (other : v ≢ s) where
   due-is : IsSmallestSum g t v (due g s t v)

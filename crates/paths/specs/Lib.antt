@@ -2,4 +2,5 @@ pub mod Below
 pub mod Graph
 pub mod Route
 pub mod Table
+pub mod Sum
 pub mod First
