@@ -7,7 +7,7 @@
  * only read. Rooms that one call is lent do not overlap each other or the map. Calls keep nothing between them and may run
  * at the same time on rooms of their own.
  *
- * What each call promises is proved: docs/PROMISES.md.
+ * What each call promises is proved: docs/PROMISES.md. The rules, and what to do about each number: docs/MANUAL.md.
  */
 #ifndef FRADNUMBER_H
 #define FRADNUMBER_H
