@@ -19,7 +19,11 @@ LONG = 60  # seconds that no run takes
 
 
 def run(folder, records):
-    return subprocess.run(COMMAND, cwd=folder, input=records, stdout=subprocess.PIPE, timeout=LONG, check=False).stdout
+    """What the program writes; its status is 0, also where it refuses the map."""
+    ran = subprocess.run(COMMAND, cwd=folder, input=records, stdout=subprocess.PIPE, timeout=LONG, check=False)
+    if ran.returncode != 0:
+        sys.exit(f"planner: ended with status {ran.returncode}")
+    return ran.stdout
 
 
 def compare(name, got, due):
