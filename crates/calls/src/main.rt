@@ -26,6 +26,7 @@
 // ends inside a call end the program.
 mod wire; // wire.rt: numbers in bytes, rooms, replies
 
+ghost use Prim.Native.Nat.{_≤_};
 use claims::RouteVerdict;
 use claims::TableVerdict;
 use claims::routes::check_route;
@@ -57,8 +58,8 @@ const CELLS: usize = 66000;
 // The longest reply: six numbers, the three rooms of bytes, and the rooms of numbers, of which the work room has twice the cells.
 const WIRE: usize = 24 + 3 * CELLS + 4 * CELLS + 8 * CELLS;
 
-// A head. A room's name is its length.
-struct Call {
+// The head of a call, up to its rooms.
+struct Question {
     what: u32,
     form: u32,
     width: u32,
@@ -68,28 +69,29 @@ struct Call {
     goal: u32,
     // the limit of a search, the cost of a route claim
     limit: u32,
+}
+
+// What the head says of one room.
+struct Room {
+    length: usize,
+    given: usize,
+}
+
+// How many entries each room is given.
+struct Given {
     map: usize,
-    map_given: usize,
     costs: usize,
-    costs_given: usize,
     work: usize,
-    work_given: usize,
     route: usize,
-    route_given: usize,
     text: usize,
-    text_given: usize,
 }
 
-fn long(n: u32) -> usize {
-    n as usize
-}
-
-// Where the input ends before or inside a head, the head stays zeros, and no entry has the number 0.
-fn read_call() -> Call {
-    let mut bytes = [0u8; 72];
-    let mut head = [0u32; 18];
-    fill_numbers(&mut head, 18, &mut bytes);
-    Call {
+// Where the input ends before or inside it, all is zeros, and no entry has the number 0.
+fn read_question() -> Question {
+    let mut bytes = [0u8; 32];
+    let mut head = [0u32; 8];
+    fill_numbers(&mut head, 8, &mut bytes);
+    Question {
         what: head[0],
         form: head[1],
         width: head[2],
@@ -98,16 +100,29 @@ fn read_call() -> Call {
         start: head[5],
         goal: head[6],
         limit: head[7],
-        map: long(head[8]),
-        map_given: long(head[9]),
-        costs: long(head[10]),
-        costs_given: long(head[11]),
-        work: long(head[12]),
-        work_given: long(head[13]),
-        route: long(head[14]),
-        route_given: long(head[15]),
-        text: long(head[16]),
-        text_given: long(head[17]),
+    }
+}
+
+fn long(n: u32) -> usize {
+    n as usize
+}
+
+// Where a room is longer than the program's, or the input ends before, it reads as a room that more is given for than it holds, which ends the program.
+fn read_room(most: usize) -> Room
+    ensures { λ r. ⌜ r .length ≤ most ⌝ }
+{
+    let mut bytes = [0u8; 8];
+    let mut head = [0u32; 2];
+    if fill_numbers(&mut head, 2, &mut bytes) {
+        let length = long(head[0]);
+        let given = long(head[1]);
+        if length <= most {
+            return Room { length, given };
+        }
+    }
+    Room {
+        length: 0,
+        given: 1,
     }
 }
 
@@ -189,27 +204,32 @@ fn of_six(n: AnswerNumbers) -> [u32; 6] {
 // Stands in place of a kind where there is no such entry.
 const NO_ENTRY: u32 = 4294967295;
 
-// Calls the entry on rooms of exactly the lengths asked for.
+// Calls the entry on rooms of exactly the lengths asked for. Rooms that could not be filled, and what no entry has the number of, go one way with the rest up
+// to the reply, which is not written: each way out of a function that was lent the rooms is proved by itself.
 fn ask(
-    call: Call,
+    filled: bool,
+    question: Question,
     map: &mut [u8],
     costs: &mut [u32],
     work: &mut [u32],
     route: &mut [u8],
     text: &mut [u8],
 ) -> [u32; 6] {
-    let w = call.width;
-    let h = call.height;
-    let ways = call.ways;
+    if !filled {
+        return [NO_ENTRY, 0, 0, 0, 0, 0];
+    }
+    let w = question.width;
+    let h = question.height;
+    let ways = question.ways;
     let floor = Floor {
         width: w as usize,
         height: h as usize,
         ways: ways as usize,
     };
-    let start = call.start;
-    let goal = call.goal;
-    let limit = call.limit;
-    let what = call.what;
+    let start = question.start;
+    let goal = question.goal;
+    let limit = question.limit;
+    let what = question.what;
     match what {
         1 => of_answer(search(floor, map, start, goal, limit, costs, work, route)),
         2 => of_route(check_route(floor, map, start, goal, limit, route)),
@@ -225,9 +245,8 @@ fn ask(
     }
 }
 
-// False if the reply cannot be written.
-fn reply(
-    form: u32,
+// Puts the reply into the wire, and gives the place after it.
+fn put_reply(
     six: [u32; 6],
     map: &[u8],
     costs: &[u32],
@@ -235,13 +254,17 @@ fn reply(
     route: &[u8],
     text: &[u8],
     wire: &mut [u8],
-) -> bool {
+) -> usize {
     let at_map = put_numbers(wire, 0, &six);
     let at_costs = put_bytes(wire, at_map, map);
     let at_work = put_numbers(wire, at_costs, costs);
     let at_route = put_numbers(wire, at_work, work);
     let at_text = put_bytes(wire, at_route, route);
-    let end = put_bytes(wire, at_text, text);
+    put_bytes(wire, at_text, text)
+}
+
+// Writes what the wire holds up to an end. False if that cannot be written.
+fn write_reply(form: u32, wire: &[u8], end: usize) -> bool {
     if wire.len() < end {
         return false;
     }
@@ -254,20 +277,38 @@ fn reply(
     io::write_all(STDOUT_FILENO, &digest)
 }
 
+// False if there is nothing to reply, and if the reply cannot be written.
+fn reply(
+    form: u32,
+    six: [u32; 6],
+    map: &[u8],
+    costs: &[u32],
+    work: &[u32],
+    route: &[u8],
+    text: &[u8],
+    wire: &mut [u8; WIRE],
+) -> bool {
+    if six[0] == NO_ENTRY {
+        return false;
+    }
+    let end = put_reply(six, map, costs, work, route, text, wire);
+    write_reply(form, wire, end)
+}
+
 // False if more is given than there is room for, and if the input ends before.
 fn fill_rooms(
-    call: Call,
+    given: Given,
     map: &mut [u8],
     costs: &mut [u32],
     work: &mut [u32],
     route: &mut [u8],
     text: &mut [u8],
-    wire: &mut [u8],
+    wire: &mut [u8; WIRE],
 ) -> bool {
-    if fill_bytes(map, call.map_given) {
-        if fill_numbers(costs, call.costs_given, wire) {
-            if fill_numbers(work, call.work_given, wire) {
-                return fill_bytes(route, call.route_given) && fill_bytes(text, call.text_given);
+    if fill_bytes(map, given.map) {
+        if fill_numbers(costs, given.costs, wire) {
+            if fill_numbers(work, given.work, wire) {
+                return fill_bytes(route, given.route) && fill_bytes(text, given.text);
             }
         }
     }
@@ -276,21 +317,18 @@ fn fill_rooms(
 
 // False if the call cannot be answered.
 fn answer_call(
-    call: Call,
+    question: Question,
+    given: Given,
     map: &mut [u8],
     costs: &mut [u32],
     work: &mut [u32],
     route: &mut [u8],
     text: &mut [u8],
-    wire: &mut [u8],
+    wire: &mut [u8; WIRE],
 ) -> bool {
-    if fill_rooms(call, map, costs, work, route, text, wire) {
-        let six = ask(call, map, costs, work, route, text);
-        if six[0] != NO_ENTRY {
-            return reply(call.form, six, map, costs, work, route, text, wire);
-        }
-    }
-    false
+    let filled = fill_rooms(given, map, costs, work, route, text, wire);
+    let six = ask(filled, question, map, costs, work, route, text);
+    reply(question.form, six, map, costs, work, route, text, wire)
 }
 
 // One call, with the parts of the rooms that it asks for. False at the end of the input, and where the call cannot be answered.
@@ -300,31 +338,29 @@ fn next_call(
     work: &mut [u32],
     route: &mut [u8],
     text: &mut [u8],
-    wire: &mut [u8],
+    wire: &mut [u8; WIRE],
 ) -> bool {
-    let call = read_call();
-    let map_length = call.map;
-    let costs_length = call.costs;
-    let work_length = call.work;
-    let route_length = call.route;
-    let text_length = call.text;
-    if map.len() < map_length {
-        return false;
-    }
-    if costs.len() < costs_length {
-        return false;
-    }
-    if work.len() < work_length {
-        return false;
-    }
-    if route.len() < route_length {
-        return false;
-    }
-    if text.len() < text_length {
-        return false;
-    }
+    let question = read_question();
+    let map_room = read_room(map.len());
+    let costs_room = read_room(costs.len());
+    let work_room = read_room(work.len());
+    let route_room = read_room(route.len());
+    let text_room = read_room(text.len());
+    let given = Given {
+        map: map_room.given,
+        costs: costs_room.given,
+        work: work_room.given,
+        route: route_room.given,
+        text: text_room.given,
+    };
+    let map_length = map_room.length;
+    let costs_length = costs_room.length;
+    let work_length = work_room.length;
+    let route_length = route_room.length;
+    let text_length = text_room.length;
     answer_call(
-        call,
+        question,
+        given,
         &mut map[0..map_length],
         &mut costs[0..costs_length],
         &mut work[0..work_length],
@@ -341,7 +377,7 @@ fn answer_calls(
     work: &mut [u32],
     route: &mut [u8],
     text: &mut [u8],
-    wire: &mut [u8],
+    wire: &mut [u8; WIRE],
 ) {
     let mut turns = u64::MAX;
     while turns > 0 && next_call(map, costs, work, route, text, wire) {

@@ -21,9 +21,6 @@ slice-aggregate-answer-calls-4 c = sym (length-replicate {A = ℕ} 66000 0)
 slice-aggregate-answer-calls-5 : tie.Need-slice-aggregate-answer-calls-5
 slice-aggregate-answer-calls-5 c = sym (length-replicate {A = ℕ} 66000 0)
 
-slice-aggregate-answer-calls-6 : tie.Need-slice-aggregate-answer-calls-6
-slice-aggregate-answer-calls-6 c = sym (length-replicate {A = ℕ} 990024 0)
-
 answer-calls-requires : tie.Need-answer-calls-requires
 answer-calls-requires c κs = search needs
 
@@ -39,6 +36,5 @@ main-spec =
     slice-aggregate-answer-calls-3
     slice-aggregate-answer-calls-4
     slice-aggregate-answer-calls-5
-    slice-aggregate-answer-calls-6
     answer-calls-requires
     returns)
