@@ -90,7 +90,7 @@ struct Given {
 fn read_question() -> Question {
     let mut bytes = [0u8; 32];
     let mut head = [0u32; 8];
-    fill_numbers(&mut head, 8, &mut bytes);
+    fill_numbers(true, &mut head, 8, &mut bytes);
     Question {
         what: head[0],
         form: head[1],
@@ -113,7 +113,7 @@ fn read_room(most: usize) -> Room
 {
     let mut bytes = [0u8; 8];
     let mut head = [0u32; 2];
-    if fill_numbers(&mut head, 2, &mut bytes) {
+    if fill_numbers(true, &mut head, 2, &mut bytes) {
         let length = long(head[0]);
         let given = long(head[1]);
         if length <= most {
@@ -295,27 +295,7 @@ fn reply(
     write_reply(form, wire, end)
 }
 
-// False if more is given than there is room for, and if the input ends before.
-fn fill_rooms(
-    given: Given,
-    map: &mut [u8],
-    costs: &mut [u32],
-    work: &mut [u32],
-    route: &mut [u8],
-    text: &mut [u8],
-    wire: &mut [u8; WIRE],
-) -> bool {
-    if fill_bytes(map, given.map) {
-        if fill_numbers(costs, given.costs, wire) {
-            if fill_numbers(work, given.work, wire) {
-                return fill_bytes(route, given.route) && fill_bytes(text, given.text);
-            }
-        }
-    }
-    false
-}
-
-// False if the call cannot be answered.
+// Fills the rooms, calls the entry and replies. False if the call cannot be answered.
 fn answer_call(
     question: Question,
     given: Given,
@@ -326,7 +306,11 @@ fn answer_call(
     text: &mut [u8],
     wire: &mut [u8; WIRE],
 ) -> bool {
-    let filled = fill_rooms(given, map, costs, work, route, text, wire);
+    let fine = fill_bytes(true, map, given.map);
+    let fine = fill_numbers(fine, costs, given.costs, wire);
+    let fine = fill_numbers(fine, work, given.work, wire);
+    let fine = fill_bytes(fine, route, given.route);
+    let filled = fill_bytes(fine, text, given.text);
     let six = ask(filled, question, map, costs, work, route, text);
     reply(question.form, six, map, costs, work, route, text, wire)
 }

@@ -26,8 +26,11 @@ fn number_given(bytes: &[u8], given: usize, i: usize) -> u32 {
 }
 
 // Reads the entries that are given, and repeats them up to the room's end; if none are, the room stays as it is. False if more are given than there is room
-// for, and if the input ends before.
-pub(crate) fn fill_bytes(room: &mut [u8], given: usize) -> bool {
+// for, if the input ends before, and if not all was fine before: rooms that are filled one after the other stop at the first that fails.
+pub(crate) fn fill_bytes(fine: bool, room: &mut [u8], given: usize) -> bool {
+    if !fine {
+        return false;
+    }
     if given == 0 {
         return true;
     }
@@ -46,7 +49,10 @@ pub(crate) fn fill_bytes(room: &mut [u8], given: usize) -> bool {
 }
 
 // The same for a room of numbers; `bytes` is lent to hold what is read.
-pub(crate) fn fill_numbers(room: &mut [u32], given: usize, bytes: &mut [u8]) -> bool {
+pub(crate) fn fill_numbers(fine: bool, room: &mut [u32], given: usize, bytes: &mut [u8]) -> bool {
+    if !fine {
+        return false;
+    }
     if given == 0 {
         return true;
     }

@@ -7,16 +7,19 @@ use Rattle.calls.proofs.wire.fill_bytes.Statement.{statement}
 use Rattle.calls.proofs.wire.fill_bytes.Tie as tie
 
 abbrev Inv-loop : tie.InvT-loop
-Inv-loop room₀ given i₀ room i = (length room ≡ length room₀) × (given ≤ i) × (0 < given)
+Inv-loop fine room₀ given i₀ room i = (length room ≡ length room₀) × (given ≤ i) × (0 < given)
 
 abbrev μ-loop : tie.MeasureT-loop
-μ-loop room₀ given i₀ room i = length room₀ - i
+μ-loop fine room₀ given i₀ room i = length room₀ - i
 
 returns : tie.Need-returns Inv-loop μ-loop
 returns c = search needs
 
 returns-2 : tie.Need-returns-2 Inv-loop μ-loop
 returns-2 c = search needs
+
+returns-3 : tie.Need-returns-3 Inv-loop μ-loop
+returns-3 c = search needs
 
 sub-read-full : tie.Need-sub-read-full Inv-loop μ-loop
 sub-read-full c = search needs
@@ -33,8 +36,8 @@ read-full-requires c κs = search needs
 same-length : tie.Need-same-length Inv-loop μ-loop
 same-length c = search needs
 
-returns-3 : tie.Need-returns-3 Inv-loop μ-loop
-returns-3 c = search needs
+returns-4 : tie.Need-returns-4 Inv-loop μ-loop
+returns-4 c = search needs
 
 loop-holds : tie.Need-loop-holds Inv-loop μ-loop
 loop-holds c = search needs
@@ -60,8 +63,8 @@ loop-again c = search needs
 same-length-2 : tie.Need-same-length-2 Inv-loop μ-loop
 same-length-2 c = search needs
 
-returns-4 : tie.Need-returns-4 Inv-loop μ-loop
-returns-4 c = search needs
+returns-5 : tie.Need-returns-5 Inv-loop μ-loop
+returns-5 c = search needs
 
 pub fill-bytes-spec : {M : Type 1} → statement M
 fill-bytes-spec =
@@ -71,12 +74,13 @@ fill-bytes-spec =
     μ-loop
     returns
     returns-2
+    returns-3
     sub-read-full
     part-read-full-start
     part-read-full-end
     read-full-requires
     same-length
-    returns-3
+    returns-4
     loop-holds
     sub-room
     slice-read-room
@@ -85,4 +89,4 @@ fill-bytes-spec =
     loop-less
     loop-again
     same-length-2
-    returns-4)
+    returns-5)

@@ -7,10 +7,10 @@ use Rattle.calls.proofs.wire.fill_numbers.Statement.{statement}
 use Rattle.calls.proofs.wire.fill_numbers.Tie as tie
 
 abbrev Inv-loop : tie.InvT-loop
-Inv-loop room₀ given bytes size i₀ room i = length room ≡ length room₀
+Inv-loop fine room₀ given bytes size i₀ room i = length room ≡ length room₀
 
 abbrev μ-loop : tie.MeasureT-loop
-μ-loop room₀ given bytes size i₀ room i = length room₀ - i
+μ-loop fine room₀ given bytes size i₀ room i = length room₀ - i
 
 returns : tie.Need-returns Inv-loop μ-loop
 returns c = search needs
@@ -20,6 +20,9 @@ returns-2 c = search needs
 
 returns-3 : tie.Need-returns-3 Inv-loop μ-loop
 returns-3 c = search needs
+
+returns-4 : tie.Need-returns-4 Inv-loop μ-loop
+returns-4 c = search needs
 
 mul-size : tie.Need-mul-size Inv-loop μ-loop
 mul-size c = search needs
@@ -39,8 +42,8 @@ read-full-requires c κs = search needs
 same-length : tie.Need-same-length Inv-loop μ-loop
 same-length c = search needs
 
-returns-4 : tie.Need-returns-4 Inv-loop μ-loop
-returns-4 c = search needs
+returns-5 : tie.Need-returns-5 Inv-loop μ-loop
+returns-5 c = search needs
 
 loop-holds : tie.Need-loop-holds Inv-loop μ-loop
 loop-holds c = search needs
@@ -69,8 +72,8 @@ same-length-2 c = search needs
 same-length-3 : tie.Need-same-length-3 Inv-loop μ-loop
 same-length-3 c = search needs
 
-returns-5 : tie.Need-returns-5 Inv-loop μ-loop
-returns-5 c = search needs
+returns-6 : tie.Need-returns-6 Inv-loop μ-loop
+returns-6 c = search needs
 
 pub fill-numbers-spec : {M : Type 1} → statement M
 fill-numbers-spec =
@@ -81,13 +84,14 @@ fill-numbers-spec =
     returns
     returns-2
     returns-3
+    returns-4
     mul-size
     sub-read-full
     part-read-full-start
     part-read-full-end
     read-full-requires
     same-length
-    returns-4
+    returns-5
     loop-holds
     number-given-requires
     mul-room
@@ -97,4 +101,4 @@ fill-numbers-spec =
     loop-again
     same-length-2
     same-length-3
-    returns-5)
+    returns-6)
