@@ -385,7 +385,7 @@ def given(cells):
 
 
 def add_calls(made):
-    """Each question is asked of the search, and then, on the map that is in its room, of the search for C."""
+    """Each question is asked of the call from C, which hands it to the search and gives the numbers of its answer."""
     for turn, case in enumerate(all_cases()):
         about = ", ".join("%s %d" % (name, value) for name, value in case.items() if name != "cells") + ", cells %r" % case["cells"][:100]
         old = (wire.OLD_COST, wire.OLD_WORK, wire.OLD_BYTE) if turn % 5 else ([turn, MARK, 0], [MARK, turn], [turn % 256, 9, 255])
@@ -394,4 +394,3 @@ def add_calls(made):
         size = len(case["cells"])
         due = lambda costs, work, route, **_: answer(case, costs, work, route)
         made.call(wire.SEARCH, about, due, map=(size, given(case["cells"])), **asked)
-        made.call(wire.C_SEARCH, about, due, map=(size, ()), **asked)

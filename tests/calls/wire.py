@@ -6,15 +6,15 @@ import struct
 import zlib
 from collections import Counter
 
-SEARCH, CHECK_ROUTE, CHECK_TABLE, READ_MAP, WRITE_MAP, JUDGE_MAP, C_CHECK_ROUTE, C_SEARCH, USE_MAP, ANSWER_RECORDS = range(1, 11)
+SEARCH, CHECK_ROUTE, CHECK_TABLE, READ_MAP, WRITE_MAP, JUDGE_MAP, C_CHECK_ROUTE, USE_MAP, ANSWER_RECORDS = range(1, 10)
 ENTRIES = {
-    SEARCH: "search", CHECK_ROUTE: "check_route", CHECK_TABLE: "check_table", READ_MAP: "read_map", WRITE_MAP: "write_map", JUDGE_MAP: "judge_map",
-    C_CHECK_ROUTE: "fradnumber_check_route", C_SEARCH: "fradnumber_search", USE_MAP: "use_map", ANSWER_RECORDS: "answer_records",
+    SEARCH: "fradnumber_search", CHECK_ROUTE: "check_route", CHECK_TABLE: "check_table", READ_MAP: "read_map", WRITE_MAP: "write_map", JUDGE_MAP: "judge_map",
+    C_CHECK_ROUTE: "fradnumber_check_route", USE_MAP: "use_map", ANSWER_RECORDS: "answer_records",
 }
 READING, SEARCHING = ("refused", "read"), ("refused", "found", "none", "stopped")
 # What the first number of a reply says, where it is a kind; the second is then the refusal or the fault.
 WORDS = {
-    SEARCH: SEARCHING, C_SEARCH: SEARCHING, READ_MAP: READING, JUDGE_MAP: READING, USE_MAP: READING,
+    SEARCH: SEARCHING, READ_MAP: READING, JUDGE_MAP: READING, USE_MAP: READING,
     CHECK_ROUTE: ("refused", "holds", "fault"), CHECK_TABLE: ("refused", "right", "breaks"), WRITE_MAP: ("refused", "written"),
 }
 WHOLE, DIGEST = 0, 1

@@ -11,16 +11,15 @@
 // their Adler-32. What an answer does not have is 0.
 //
 //   what                       the six numbers
-//    1 search                  kind (0 refused, 1 found, 2 none, 3 stopped), refusal, place, settled, number returned, route length
+//    1 fradnumber_search       kind (0 refused, 1 found, 2 none, 3 stopped), refusal, place, settled, number returned, route length
 //    2 check_route             kind (0 refused, 1 holds, 2 fault), refusal or fault, place, cost
 //    3 check_table             kind (0 refused, 1 right, 2 breaks), refusal, place or cell
 //    4 read_map                kind (0 refused, 1 read), refusal, place, width, height, ways
 //    5 write_map               kind (0 refused, 1 written), refusal, place, length
 //    6 judge_map               as read_map; the cell room's length is that of the map room
 //    7 fradnumber_check_route  low half and high half of what C gets
-//    8 fradnumber_search       the six fields of what C gets
-//    9 use_map                 as read_map
-//   10 answer_records          how many bytes are answers; the records are in the text room
+//    8 use_map                 as read_map
+//    9 answer_records          how many bytes are answers; the records are in the text room
 //
 // Each reply is written before the next call is read. An unknown `what`, a room longer than the program's, more given than a room's length, and an input that
 // ends inside a call end the program.
@@ -35,17 +34,14 @@ use claims::tables::check_table;
 use desk::answer_records;
 use desk::use_map;
 use floor::Floor;
-use floor::MARK;
 use libc::STDOUT_FILENO;
 use maptext::Read;
 use maptext::Written;
 use maptext::judge_map;
 use maptext::read_map;
 use maptext::write_map;
-use search::Answer;
 use search::AnswerNumbers;
 use search::rooms::fradnumber_search;
-use search::rooms::search;
 use wire::adler;
 use wire::fill_bytes;
 use wire::fill_numbers;
@@ -136,17 +132,6 @@ fn short(n: u64) -> u32 {
     4294967295
 }
 
-fn of_answer(answer: Answer) -> [u32; 6] {
-    match answer {
-        Answer::Refused(number, place) => [0, number, short(place as u64), 0, 0, 0],
-        Answer::Found(settled, cost, length) => {
-            [1, 0, 0, short(settled as u64), cost, short(length as u64)]
-        }
-        Answer::None(settled) => [2, 0, 0, short(settled as u64), MARK, 0],
-        Answer::Stopped(settled, floor) => [3, 0, 0, short(settled as u64), floor, 0],
-    }
-}
-
 fn of_route(verdict: RouteVerdict) -> [u32; 6] {
     match verdict {
         RouteVerdict::Refused(number, place) => [0, number, short(place as u64), 0, 0, 0],
@@ -231,16 +216,15 @@ fn ask(
     let limit = question.limit;
     let what = question.what;
     match what {
-        1 => of_answer(search(floor, map, start, goal, limit, costs, work, route)),
+        1 => of_six(fradnumber_search(w, h, ways, map, start, goal, limit, costs, work, route)),
         2 => of_route(check_route(floor, map, start, goal, limit, route)),
         3 => of_table(check_table(floor, map, start, costs)),
         4 => of_read(read_map(text, map)),
         5 => of_written(write_map(floor, map, text)),
         6 => of_read(judge_map(text, map.len())),
         7 => of_halves(fradnumber_check_route(w, h, ways, map, start, goal, limit, route)),
-        8 => of_six(fradnumber_search(w, h, ways, map, start, goal, limit, costs, work, route)),
-        9 => of_read(use_map(text, map)),
-        10 => of_halves(answer_records(floor, map, text, costs, work, route) as u64),
+        8 => of_read(use_map(text, map)),
+        9 => of_halves(answer_records(floor, map, text, costs, work, route) as u64),
         _ => [NO_ENTRY, 0, 0, 0, 0, 0],
     }
 }
