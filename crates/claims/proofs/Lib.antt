@@ -7,3 +7,4 @@ pub mod Holding
 pub mod Claims
 pub mod Faults
 pub mod Collecting
+pub mod TableCalls

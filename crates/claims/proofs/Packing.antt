@@ -18,12 +18,13 @@ use Rattle.floor.specs.declared.Step.the-variants.{To, Barred}
 use Rattle.floor.specs.declared.Screen.{Screen}
 use Rattle.floor.specs.declared.Screen.the-variants.{Passed, Refused}
 use Rattle.floor.specs.Place.{hasSides, cells}
-use Rattle.floor.specs.Refusal.{Line, screen, firstAbove}
+use Rattle.floor.specs.Refusal.{Line, line, screen, firstAbove}
 use Rattle.floor.specs.Step.{stepOf}
 use Rattle.floor.proofs.Passing.{sides, facts, few-cells}
 use Rattle.floor.specs.Numbers.{Numbers, refused, fault, gives, afterScreen}
 use Rattle.claims.specs.Route.{Claim, holds, claimLines, faultOf, arrived, onStep, tried, routeVerdict, numberOf, valueOf}
-use Rattle.claims.proofs.Passing.{claim-passed, claim-short}
+use Rattle.claims.specs.Table.{tableLines, breaking, judged, tableVerdict, asFault}
+use Rattle.claims.proofs.Passing.{claim-passed, claim-short, table-passed}
 
 abbrev placeIn : Screen → ℕ
 placeIn Passed = 0
@@ -74,15 +75,20 @@ screen-numbered (l ∷ ls) t =
     let a = T-and (ltb 0 (l .number)) (numbered ls) t in
     by-cond Numbered (l .given) _ _ (λ h. ltb→lt 0 (l .number) (a .0)) (λ h. screen-numbered ls (a .1))
 
+-- after 1 and 2 a map has at most 256 × 256 cells, and a place among them fits
+place-small : (f : Floor) (m : List ℕ) (ls : List Line) → highest ls ≤ length m
+    → placeIn (screen (line 1 (not (hasSides f)) 0 ∷ line 2 (not (eqb (length m) (cells f))) 0 ∷ ls)) ≤ MARK
+place-small f m ls h =
+    by-cond (λ (x : Screen). placeIn x ≤ MARK) (not (hasSides f)) _ _ (λ t. omega arith)
+    (λ t. by-cond (λ (x : Screen). placeIn x ≤ MARK) (not (eqb (length m) (cells f))) _ _ (λ u. omega arith)
+    (λ u.
+    let s = sides f (T-not-not (hasSides f) t) in
+    let e = eqb→eq (length m) (cells f) (T-not-not (eqb (length m) (cells f)) u) in
+    omega (arith, mul-le-mul (s .0 .top) (s .1 .top), h, place-at-most ls)))
+
 module _ (f : Floor) (m : List ℕ) (c : Claim) where
   refused-small : placeIn (screen (claimLines f m c)) ≤ MARK
-  refused-small =
-      by-cond (λ (x : Screen). placeIn x ≤ MARK) (not (hasSides f)) _ _ (λ t. omega arith)
-      (λ t. by-cond (λ (x : Screen). placeIn x ≤ MARK) (not (eqb (length m) (cells f))) _ _ (λ u. omega arith)
-      (λ u.
-      let s = sides f (T-not-not (hasSides f) t) in
-      let e = eqb→eq (length m) (cells f) (T-not-not (eqb (length m) (cells f)) u) in
-      omega (arith, mul-le-mul (s .0 .top) (s .1 .top), first-above-at-most m, place-at-most (drop 2 (claimLines f m c)))))
+  refused-small = place-small f m (drop 2 (claimLines f m c)) (omega (arith, first-above-at-most m))
 
   tried-small : (ds : List ℕ) (v i k : ℕ) → c .cost ≤ MARK → i + length ds ≤ MARK → valueOf (tried f m c v i k ds) ≤ MARK
   unfolding arrived
@@ -135,3 +141,15 @@ module _ (f : Floor) (m : List ℕ) (c : Claim) where
       go Passed h (fault n p) t e = absurd (omega arith)
       go Passed h (gives vs) t e = (t .0, ap gives (t .1))
       go (Screen.Refused n p) h v t e = absurd (omega arith)
+
+-- a cell that breaks the rule is on the map
+pub table-value-small : (f : Floor) (m : List ℕ) (s : ℕ) (t : List ℕ) → valueOf (asFault (tableVerdict f m s t)) ≤ MARK
+unfolding tableVerdict
+table-value-small f m s t = go (screen (tableLines f m s t)) refl
+  where
+    go : (x : Screen) → screen (tableLines f m s t) ≡ x → valueOf (asFault (afterScreen x (judged f (breaking f m s t)))) ≤ MARK
+    go Passed e =
+        by-cond (λ (v : Numbers). valueOf (asFault v) ≤ MARK) (ltb (breaking f m s t) (cells f)) _ _
+        (λ h. omega (arith, ltb→lt (breaking f m s t) (cells f) h, few-cells (facts f m (table-passed f m s t e) .map)))
+        (λ h. omega arith)
+    go (Refused n p) e = omega (arith, place-small f m (drop 2 (tableLines f m s t)) (omega (arith, first-above-at-most m)), ap placeIn e)

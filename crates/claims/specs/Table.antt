@@ -13,7 +13,7 @@ use Rattle.floor.specs.declared.Floor.{Floor}
 use Rattle.floor.specs.Place.{cells}
 use Rattle.floor.specs.Step.{graph}
 use Rattle.floor.specs.Refusal.{Line, line, screen, floorLines, outsideLine, blockedLine}
-use Rattle.floor.specs.Numbers.{Numbers, refused, gives, afterScreen}
+use Rattle.floor.specs.Numbers.{Numbers, refused, fault, gives, afterScreen}
 use Rattle.claims.specs.declared.TableVerdict.{TableVerdict}
 use Rattle.claims.specs.declared.TableVerdict.the-variants.{Refused, Right, Breaks}
 
@@ -61,3 +61,10 @@ judged f b = cond (ltb b (cells f)) (breaksAt b) right
 
 unfoldable pub tableVerdict : Floor → List ℕ → ℕ → List ℕ → Numbers
 tableVerdict f m s t = afterScreen (screen (tableLines f m s t)) (judged f (breaking f m s t))
+
+-- For callers from C, whose answer must have a number: a cell that breaks the rule is fault 40 at that cell. 01 gives it no number
+abbrev pub asFault : Numbers → Numbers
+asFault (refused n p) = refused n p
+asFault (fault n p) = fault n p
+asFault (gives []) = right
+asFault (gives (b ∷ bs)) = fault 40 b

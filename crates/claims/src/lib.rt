@@ -2,7 +2,7 @@
 // specs/Route.antt and specs/Table.antt say what they answer; docs/PROMISES.md has a row for each public function.
 
 pub mod routes; // routes.rt: the check of a claimed route, and the collector's entry to it
-pub mod tables; // tables.rt: the check of a claimed cost table
+pub mod tables; // tables.rt: the check of a claimed cost table, and the entry to it from C
 
 // The answer about a claimed route: the refusal's or the fault's number and place, or the cost of a route that holds. `numbersOf` in specs/Route.antt.
 pub enum RouteVerdict {

@@ -2,9 +2,11 @@
 ghost use mathlib.Core.Path.{_≡_};
 ghost use Prim.Native.Nat.{_≤_, _<_};
 ghost use lib.ListN.{length};
-ghost use Rattle.floor.specs.Place.{cells};
+ghost use Rattle.paths.specs.Graph.{MARK};
+ghost use Rattle.floor.specs.Place.{cells, floorOf};
 ghost use Rattle.floor.specs.Refusal.{HasPassed, screen};
-ghost use Rattle.claims.specs.Table.{tableLines, owed, breaking, numbersOf, tableVerdict};
+ghost use Rattle.claims.specs.Route.{valueOf, packed};
+ghost use Rattle.claims.specs.Table.{tableLines, owed, breaking, numbersOf, tableVerdict, asFault};
 use crate::TableVerdict;
 use floor::Floor;
 use floor::MARK;
@@ -68,4 +70,36 @@ pub fn check_table(f: Floor, map: &[u8], start: u32, costs: &[u32]) -> TableVerd
             TableVerdict::Right
         }
     }
+}
+
+// As the route check's answer: high half the number (0 if the table is right, 40 if it is not), low half the place, or the cell.
+fn pack(verdict: TableVerdict) -> u64
+    requires { ⌜ valueOf (asFault (numbersOf verdict)) ≤ MARK ⌝ }
+    ensures { λ r. ⌜ r ≡ packed (asFault (numbersOf verdict)) ⌝ }
+{
+    match verdict {
+        TableVerdict::Refused(number, place) => (number as u64) * 4294967296 + (place as u64),
+        TableVerdict::Right => 0,
+        TableVerdict::Breaks(cell) => 40 * 4294967296 + (cell as u64),
+    }
+}
+
+// The check for callers from C. Every number comes in at 32 bits and is widened, so that none is narrowed before it is judged.
+#[no_mangle]
+pub extern "C" fn fradnumber_check_table(
+    width: u32,
+    height: u32,
+    ways: u32,
+    map: &[u8],
+    start: u32,
+    costs: &[u32],
+) -> u64
+    ensures { λ r. ⌜ r ≡ packed (asFault (tableVerdict (floorOf width height ways) (now (map .entry)) start (now (costs .entry)))) ⌝ }
+{
+    let f = Floor {
+        width: width as usize,
+        height: height as usize,
+        ways: ways as usize,
+    };
+    pack(check_table(f, map, start, costs))
 }
