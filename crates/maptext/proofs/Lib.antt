@@ -11,3 +11,4 @@ pub mod Texts
 pub mod WritingBack
 pub mod Faults
 pub mod Refusals
+pub mod Calls

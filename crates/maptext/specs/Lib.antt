@@ -1,4 +1,5 @@
 pub mod Text
 pub mod Reading
 pub mod Faults
+pub mod Calls
 pub mod Working

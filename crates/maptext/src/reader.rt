@@ -5,8 +5,10 @@ ghost use Prim.Native.Nat.{suc, _+_, _*_, _^_, _≤_, _<_};
 ghost use lib.ListN.{length, take, drop};
 ghost use lib.Seq.{sets};
 ghost use Rattle.maptext.specs.Reading.{readRow, readRows, readingOf, numbersOf, readFor, IsRead};
+ghost use Rattle.maptext.specs.Calls.{readNumbers, ReadCalled};
 ghost use Rattle.maptext.specs.Working.{judged, answerFor, byteOf, bytesIn};
 use crate::Read;
+use crate::ReadNumbers;
 use crate::chars::byte_of;
 use crate::chars::is_cell;
 use floor::Floor;
@@ -146,4 +148,42 @@ pub fn read_map(text: &[u8], cells: &mut [u8]) -> Read
     let from = text.len() - height * (width + 1);
     fill_rows(width, height, from, text, cells);
     judged
+}
+
+fn read_numbers(read: Read) -> ReadNumbers
+    ensures { λ r. ⌜ r ≡ readNumbers (numbersOf read) ⌝ }
+{
+    match read {
+        Read::Map(f) => ReadNumbers {
+            refusal: 0,
+            place: 0,
+            width: f.width as u64,
+            height: f.height as u64,
+            ways: f.ways as u64,
+        },
+        Read::Refused(number, place) => ReadNumbers {
+            refusal: number as u64,
+            place: place as u64,
+            width: 0,
+            height: 0,
+            ways: 0,
+        },
+    }
+}
+
+// Judging for callers from C. `room` is a length, as that of a slice is.
+#[no_mangle]
+pub extern "C" fn fradnumber_judge_map(text: &[u8], room: usize) -> ReadNumbers
+    ensures { λ r. ⌜ r ≡ readNumbers (readFor (readingOf (now (text .entry)) room)) ⌝ }
+{
+    read_numbers(judge_map(text, room))
+}
+
+// The reader for callers from C.
+#[no_mangle]
+pub extern "C" fn fradnumber_read_map(text: &[u8], cells: &mut [u8]) -> ReadNumbers
+    ensures { λ r. ⌜ ReadCalled (now (text .entry)) (now (cells .entry)) r (now (cells .exit)) ⌝ }
+{
+    let read = read_map(text, cells);
+    read_numbers(read)
 }

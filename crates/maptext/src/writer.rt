@@ -3,12 +3,14 @@ ghost use mathlib.Core.Path.{_≡_};
 ghost use mathlib.Core.List.{_++_, [], _∷_, map};
 ghost use Prim.Native.Nat.{suc, _+_, _*_, _≤_, _<_};
 ghost use lib.ListN.{length, take};
-ghost use Rattle.floor.specs.Place.{greatestSide};
+ghost use Rattle.floor.specs.Place.{greatestSide, floorOf};
 ghost use Rattle.textlines.specs.Line.{LF};
 ghost use Rattle.textlines.specs.Working.{IsPut};
-ghost use Rattle.maptext.specs.Text.{charOf, rows, header, IsWritten};
+ghost use Rattle.maptext.specs.Text.{charOf, rows, header, numbersOf, IsWritten};
+ghost use Rattle.maptext.specs.Calls.{writtenNumbers, WriteCalled};
 ghost use Rattle.maptext.specs.Working.{Weights};
 use crate::Written;
+use crate::WrittenNumbers;
 use crate::chars::char_of;
 use floor::Floor;
 use floor::Screen;
@@ -89,4 +91,41 @@ pub fn write_map(f: Floor, map: &[u8], text: &mut [u8]) -> Written
             Written::Length(end)
         }
     }
+}
+
+fn written_numbers(written: Written) -> WrittenNumbers
+    ensures { λ r. ⌜ r ≡ writtenNumbers (numbersOf written) ⌝ }
+{
+    match written {
+        Written::Length(length) => WrittenNumbers {
+            refusal: 0,
+            place: 0,
+            length: length as u64,
+        },
+        Written::Refused(number, place) => WrittenNumbers {
+            refusal: number as u64,
+            place: place as u64,
+            length: 0,
+        },
+    }
+}
+
+// The writer for callers from C. Both sides come in at 32 bits and are widened, so that neither is narrowed before it is judged; 8 is
+// what the reader gives for ways.
+#[no_mangle]
+pub extern "C" fn fradnumber_write_map(
+    width: u32,
+    height: u32,
+    map: &[u8],
+    text: &mut [u8],
+) -> WrittenNumbers
+    ensures { λ r. ⌜ WriteCalled (floorOf width height 8) (now (map .entry)) (now (text .entry)) r (now (text .exit)) ⌝ }
+{
+    let f = Floor {
+        width: width as usize,
+        height: height as usize,
+        ways: 8,
+    };
+    let written = write_map(f, map, text);
+    written_numbers(written)
 }
