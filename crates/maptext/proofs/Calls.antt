@@ -1,9 +1,9 @@
 -- The calls from C say what the reader and the writer say: a refusal has no width, height, ways or length, and a map or a text has them.
 use mathlib.Core.Path.{_≡_, refl, sym, ap, _∙_}
-use mathlib.Core.Logic.{_↔_, Iff·trans}
+use mathlib.Core.Logic.{_↔_, Iff·trans, inl, inr}
 use mathlib.Core.Bool.{true}
 use mathlib.Core.List.{List, [], _∷_, _++_}
-use Prim.Native.Nat.{ℕ, zero, suc, _≤_}
+use Prim.Native.Nat.{ℕ, zero, suc, _≤_, _<_}
 use native.Mathlib.Omega.{arith}
 use lib.ListN.{length, take, drop}
 use Rattle.floor.specs.declared.Floor.{Floor}
@@ -20,8 +20,8 @@ use Rattle.maptext.specs.declared.Written.the-variants.{Length}
 use Rattle.maptext.specs.declared.WrittenNumbers.{WrittenNumbers}
 use Rattle.maptext.specs.Text.{header, textOf, writeLines, textLeft, IsWritten}
 use Rattle.maptext.specs.Reading as reading
-use Rattle.maptext.specs.Reading.{Reading, read, readingOf, readFor, cellsLeft, IsRead}
-use Rattle.maptext.specs.Faults.{IsFirstFault}
+use Rattle.maptext.specs.Reading.{Reading, read, headerLines, readingOf, readFor, cellsLeft, IsRead}
+use Rattle.maptext.specs.Faults.{IsWrong, no-cell, no-line-end, too-soon, further, IsFirstFault}
 use Rattle.maptext.specs.Calls.{readNumbers, writtenNumbers, ReadCalled, WriteCalled}
 use Rattle.maptext.proofs.Texts.{readOf, reads-back}
 use Rattle.maptext.proofs.Refusals.{refused-exactly}
@@ -54,6 +54,31 @@ pub read-call-same : (text room : List ℕ) (x : ReadNumbers) (room′ : List �
     → (n p : ℕ) → x ≡ readNumbers (refused n p) → room′ ≡ room
 read-call-same text room x room′ c n p e =
     c .leaves ∙ ap (λ (y : Reading). cellsLeft y room) (reading-refused (readingOf text (length room)) n p .0 (sym (c .numbers) ∙ e))
+
+-- no refusal has the number 0
+above-zero : (text : List ℕ) (room n p : ℕ) → IsFirstFault text room n p → 0 < n
+above-zero text room n p (inl low) = above 0 (headerLines text room) tt (line n true p) (low .applies)
+above-zero text room n p (inr x) = go (x .1 .wrong)
+  where
+    go : {start w h i : ℕ} → IsWrong text start w h i n → 0 < n
+    go (no-cell a b c d e) = omega (arith, e)
+    go (no-line-end a b c d e) = omega (arith, e)
+    go (too-soon a b e) = omega (arith, e)
+    go (further a b e) = omega (arith, e)
+
+-- The refusal is 0 exactly where none is due
+pub zero-unrefused : (text : List ℕ) (room : ℕ) (x : ReadNumbers) → x ≡ readNumbers (readFor (readingOf text room))
+    → (x .refusal ≡ 0) ↔ ((n p : ℕ) → IsFirstFault text room n p → ⊥)
+zero-unrefused text room x e = (
+  λ z n p due.
+      let refusal = ap (λ (y : ReadNumbers). y .refusal) (judge-call-refused text room x e n p .1 due) in
+      omega (arith, z, refusal, above-zero text room n p due),
+  λ none. ap (λ (y : ReadNumbers). y .refusal) e ∙ go (readingOf text room) refl none,
+)
+  where
+    go : (y : Reading) → readingOf text room ≡ y → ((n p : ℕ) → IsFirstFault text room n p → ⊥) → readNumbers (readFor y) .refusal ≡ 0
+    go (Reading.refused n p) k none = absurd (none n p (refused-exactly text room n p .0 k))
+    go (read w h m) k none = refl
 
 -- the answer of the reader with these numbers
 read-again : (x : Reading) → reading.numbersOf (readOf (readFor x)) ≡ readFor x

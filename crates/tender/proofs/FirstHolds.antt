@@ -20,14 +20,16 @@ use Rattle.maptext.specs.declared.Written.{Written}
 use Rattle.maptext.specs.Text as text
 use Rattle.maptext.specs.Text.{textOf, writeLines, textLeft, IsWritten}
 use Rattle.maptext.proofs.Texts.{writtenOf, written-is}
+use Rattle.maptext.proofs.Calls.{judge-call-refused, read-call-same, write-call-refused, write-call-same}
 use Rattle.claims.specs.Route as route
 use Rattle.claims.specs.Route.{Claim, claimLines, routeVerdict, packed}
 use Rattle.claims.specs.Faults.{stepFaults, endFaults, standsAt, IsFault, of-step, of-end}
 use Rattle.claims.specs.Table as table
-use Rattle.claims.specs.Table.{tableLines}
+use Rattle.claims.specs.Table.{tableLines, tableVerdict, asFault}
 use Rattle.claims.proofs.Claims.{routeOf, route-back, tableOf, table-back, route-refused-exactly, table-refused-exactly}
 use Rattle.claims.proofs.Faults.{fault-exactly}
 use Rattle.claims.proofs.Collecting.{told-exactly}
+use Rattle.claims.proofs.TableCalls.{other-refused}
 use Rattle.search.specs.declared.Answer.{Answer}
 use Rattle.search.specs.declared.Answer.the-variants.{Found, None, Stopped}
 use Rattle.search.specs.declared.AnswerNumbers.{AnswerNumbers}
@@ -155,8 +157,23 @@ module _ (f : Floor) (m : List ℕ) (c : Claim) (fits : c .cost ≤ MARK) (x : �
     λ low.
         let not-held = above 0 (claimLines f m c) tt (line n true p) (low .applies) in
         let told = told-exactly f m c fits x promised n p not-held .1 (inl (route-refused-exactly f m c n p .1 (lowest-line (claimLines f m c) 0 tt n p .1 low))) in
-        record { number = told .0; place = told .1; no-fault = below 41 (claimLines f m c) tt (line n true p) (low .applies); not-held = not-held },
+        record { number = told .0; place = told .1; no-fault = omega (arith, below 40 (claimLines f m c) tt (line n true p) (low .applies)); not-held = not-held },
   )
+
+-- the number of the table check's call
+table-says : (f : Floor) (m : List ℕ) (s : ℕ) (t : List ℕ) (x : ℕ) → x ≡ packed (asFault (tableVerdict f m s t))
+    → (n p : ℕ) → SaysRefused x n p ↔ IsLowestLine (tableLines f m s t) n p
+table-says f m s t x promised n p = (
+  λ said. lines .0 (other-refused f m s t x promised n p (said .not-held) (said .no-fault) .0 (said .number, said .place)),
+  λ low.
+      let not-held = above 0 (tableLines f m s t) tt (line n true p) (low .applies) in
+      let no-fault = below 40 (tableLines f m s t) tt (line n true p) (low .applies) in
+      let told = other-refused f m s t x promised n p not-held no-fault .1 (lines .1 low) in
+      record { number = told .0; place = told .1; no-fault = omega (arith, no-fault); not-held = not-held },
+)
+  where
+    lines : (screen (tableLines f m s t) ≡ Refused n p) ↔ IsLowestLine (tableLines f m s t) n p
+    lines = lowest-line (tableLines f m s t) 0 tt n p
 
 -- what is refused of a record does not depend on what the rooms hold
 same-refusable : {f : Floor} {m question : List ℕ} {r s : Rooms} {n p : ℕ} → SameLengths r s → IsRefusable f m question r n p → IsRefusable f m question s n p
@@ -187,6 +204,12 @@ first-condition = record {
   search = search-refuses;
   search-call = call-refuses;
   route-call = call-says;
+  table-call = table-says;
+  reader-call = λ text room x room′ c.
+      record { exactly = judge-call-refused text (length room) x (c .numbers); alters-nothing = read-call-same text room x room′ c };
+  judge-call = judge-call-refused;
+  writer-call = λ f m room x room′ c.
+      record { exactly = write-call-refused f m room x room′ c; alters-nothing = write-call-same f m room x room′ c };
   judge = judge-refuses;
   program-records = records-refuse;
   route-check = λ f m c v e n p.

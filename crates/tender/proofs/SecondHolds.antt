@@ -19,11 +19,13 @@ use Rattle.maptext.specs.declared.Read.the-variants.{Map}
 use Rattle.maptext.specs.Reading as reading
 use Rattle.maptext.specs.Reading.{Reading, refused, read, readingOf, readFor, cellsLeft, IsRead}
 use Rattle.maptext.proofs.Texts.{readOf, read-back, reads-back}
+use Rattle.maptext.proofs.Calls.{calls-back}
 use Rattle.claims.specs.Route as route
 use Rattle.claims.specs.Table as claimed
 use Rattle.claims.specs.Table.{right, tableVerdict}
 use Rattle.claims.proofs.Claims.{routeOf, route-back, tableOf, table-back, holds-exactly, right-exactly, settles-none, settles-cost}
 use Rattle.claims.proofs.Collecting.{accepted-exactly, accepted-cost}
+use Rattle.claims.proofs.TableCalls.{zero-right, forty-breaks}
 use Rattle.search.specs.declared.Answer.{Answer}
 use Rattle.search.specs.Search.{Rooms, searchLines, numbersOf}
 use Rattle.search.proofs.Promise.{by-table}
@@ -86,6 +88,13 @@ second-condition = record {
       let y = answered-each f m (wholeRecords bytes) bytes r bytes′ r′ (x .records) i h in
       of-record r (y .lengths) (y .asked) (y .leaves) z s;
   route-call = λ f m c fits x e. (accepted-exactly f m c fits x e, accepted-cost f m c fits x e);
+  table-call = λ f m s t x e p. (
+    (λ z. zero-right f m s t x e .0 z .1, λ w. zero-right f m s t x e .1 (p, w)),
+    λ b. (λ z. forty-breaks f m s t x e b .0 z .1, λ w. forty-breaks f m s t x e b .1 (p, w)),
+  );
+  none-call = λ f m s t x e z. none-claimed f m s t (right-exactly f m s t .1 (zero-right f m s t x e .0 z));
+  map-call = calls-back;
+  judge-call = λ text room x room′ c j e. e ∙ sym (c .numbers);
   judge = λ text room r room′ x j e. sym (read-back j) ∙ ap readOf (e ∙ sym (x .answers)) ∙ read-back r;
   program-map = used-read;
   route-claim = λ f m c v x p k. (

@@ -13,17 +13,20 @@ use Rattle.floor.specs.Refusal.{screen, mapLines, floorLines, questionLines}
 use Rattle.floor.specs.LowestLine.{IsLowestLine}
 use Rattle.floor.specs.Numbers.{refused, numbersOf}
 use Rattle.maptext.specs.declared.Read.{Read}
+use Rattle.maptext.specs.declared.ReadNumbers.{ReadNumbers}
 use Rattle.maptext.specs.declared.Written.{Written}
+use Rattle.maptext.specs.declared.WrittenNumbers.{WrittenNumbers}
 use Rattle.maptext.specs.Text.{writeLines, IsWritten}
 use Rattle.maptext.specs.Reading as reading
 use Rattle.maptext.specs.Reading.{read, readingOf, readFor, IsRead}
+use Rattle.maptext.specs.Calls.{readNumbers, writtenNumbers, ReadCalled, WriteCalled}
 use Rattle.maptext.specs.Faults.{IsFirstFault}
 use Rattle.claims.specs.declared.RouteVerdict.{RouteVerdict}
 use Rattle.claims.specs.declared.TableVerdict.{TableVerdict}
 use Rattle.claims.specs.Route as route
 use Rattle.claims.specs.Route.{Claim, claimLines, routeVerdict, packed}
 use Rattle.claims.specs.Table as table
-use Rattle.claims.specs.Table.{tableLines, tableVerdict}
+use Rattle.claims.specs.Table.{tableLines, tableVerdict, asFault}
 use Rattle.search.specs.declared.Answer.{Answer}
 use Rattle.search.specs.declared.AnswerNumbers.{AnswerNumbers}
 use Rattle.search.specs.Search as answer
@@ -50,11 +53,11 @@ pub data IsRefusable (f : Floor) (m question : List ℕ) (r : Rooms) (n p : ℕ)
   not-searched : endsInZeros question ≡ true → IsLowestLine (searchLines (withWays f (waysIn question)) m (questionIn question) r) n p
       → IsRefusable f m question r n p
 
--- the collector's number says refusal n at place p: a fault has a number from 41 on
+-- the number of a check's call says refusal n at place p: a table that breaks the rule has number 40, and a route's fault one from 41 on
 pub record SaysRefused (x n p : ℕ) : Type 0 where
   pub number : x / 4294967296 ≡ n
   pub place : x % 4294967296 ≡ p
-  pub no-fault : n < 41
+  pub no-fault : n < 40
   pub not-held : 0 < n
 
 -- The checks are lent nothing to write to: what they answer is all that they do
@@ -69,12 +72,20 @@ pub record FirstCondition : Type 0 where
       → (n p : ℕ) → SaysRefused x n p ↔ IsLowestLine (claimLines f m c) n p
   pub table-check : (f : Floor) (m : List ℕ) (s : ℕ) (t : List ℕ) (v : TableVerdict) → table.numbersOf v ≡ tableVerdict f m s t
       → (n p : ℕ) → (v ≡ TableVerdict.Refused n p) ↔ IsLowestLine (tableLines f m s t) n p
+  pub table-call : (f : Floor) (m : List ℕ) (s : ℕ) (t : List ℕ) (x : ℕ) → x ≡ packed (asFault (tableVerdict f m s t))
+      → (n p : ℕ) → SaysRefused x n p ↔ IsLowestLine (tableLines f m s t) n p
   pub writer : (f : Floor) (m room : List ℕ) (w : Written) (room′ : List ℕ) → IsWritten f m room w room′
       → Refuses (IsLowestLine (writeLines f m (length room))) (λ n p. w ≡ Written.Refused n p) (room′ ≡ room)
+  pub writer-call : (f : Floor) (m room : List ℕ) (x : WrittenNumbers) (room′ : List ℕ) → WriteCalled f m room x room′
+      → Refuses (IsLowestLine (writeLines f m (length room))) (λ n p. x ≡ writtenNumbers (refused n p)) (room′ ≡ room)
   pub reader : (text room : List ℕ) (r : Read) (room′ : List ℕ) → IsRead text room r room′
       → Refuses (IsFirstFault text (length room)) (λ n p. r ≡ Read.Refused n p) (room′ ≡ room)
+  pub reader-call : (text room : List ℕ) (x : ReadNumbers) (room′ : List ℕ) → ReadCalled text room x room′
+      → Refuses (IsFirstFault text (length room)) (λ n p. x ≡ readNumbers (refused n p)) (room′ ≡ room)
   pub judge : (text : List ℕ) (room : ℕ) (r : Read) → reading.numbersOf r ≡ readFor (readingOf text room)
       → (n p : ℕ) → (r ≡ Read.Refused n p) ↔ IsFirstFault text room n p
+  pub judge-call : (text : List ℕ) (room : ℕ) (x : ReadNumbers) → x ≡ readNumbers (readFor (readingOf text room))
+      → (n p : ℕ) → (x ≡ readNumbers (refused n p)) ↔ IsFirstFault text room n p
   pub program-map : (text room : List ℕ) (r : Read) (room′ : List ℕ) → IsUsed text room r room′
       → Refuses (IsUnusable text (length room)) (λ n p. r ≡ Read.Refused n p) (room′ ≡ room)
   pub program-question : (f : Floor) (m question : List ℕ) (r : Rooms) (a : Answer) (r′ : Rooms) → Asked f m question r a r′

@@ -2,7 +2,7 @@
 use mathlib.Core.Path.{_≡_}
 use mathlib.Core.Logic.{_↔_}
 use mathlib.Core.Bool.{true}
-use mathlib.Core.List.{List, _++_}
+use mathlib.Core.List.{List, [], _∷_, _++_}
 use Prim.Native.Nat.{ℕ, _/_, _%_, _≤_, _<_}
 use lib.ListN.{length, getD, take, drop}
 use Rattle.paths.specs.Graph.{MARK}
@@ -13,12 +13,16 @@ use Rattle.floor.specs.declared.Screen.the-variants.{Passed}
 use Rattle.floor.specs.Place.{cells}
 use Rattle.floor.specs.Refusal.{screen}
 use Rattle.floor.specs.Step.{graph}
+use Rattle.floor.specs.Numbers.{gives}
 use Rattle.maptext.specs.declared.Read.{Read}
 use Rattle.maptext.specs.declared.Read.the-variants.{Map}
+use Rattle.maptext.specs.declared.ReadNumbers.{ReadNumbers}
 use Rattle.maptext.specs.declared.Written.the-variants.{Length}
+use Rattle.maptext.specs.declared.WrittenNumbers.{WrittenNumbers}
 use Rattle.maptext.specs.Text.{IsWritten}
 use Rattle.maptext.specs.Reading as reading
 use Rattle.maptext.specs.Reading.{readingOf, readFor, IsRead}
+use Rattle.maptext.specs.Calls.{readNumbers, ReadCalled, WriteCalled}
 use Rattle.claims.specs.declared.RouteVerdict.{RouteVerdict}
 use Rattle.claims.specs.declared.RouteVerdict.the-variants.{Holds}
 use Rattle.claims.specs.declared.TableVerdict.{TableVerdict}
@@ -26,7 +30,7 @@ use Rattle.claims.specs.declared.TableVerdict.the-variants.{Right}
 use Rattle.claims.specs.Route as route
 use Rattle.claims.specs.Route.{Claim, claimLines, routeVerdict, IsTrue, packed}
 use Rattle.claims.specs.Table as claimed
-use Rattle.claims.specs.Table.{tableLines, tableVerdict}
+use Rattle.claims.specs.Table.{IsLowest, tableLines, tableVerdict, asFault}
 use Rattle.search.specs.declared.Answer.{Answer}
 use Rattle.search.specs.declared.AnswerNumbers.{AnswerNumbers}
 use Rattle.search.specs.Search.{Question, Rooms, searchLines, Searched, numbersOf, Called}
@@ -64,13 +68,26 @@ pub record SecondCondition : Type 0 where
       → ((x / 4294967296 ≡ 0) ↔ IsTrue f m c) × (x / 4294967296 ≡ 0 → x % 4294967296 ≡ c .cost)
   pub table-claim : (f : Floor) (m : List ℕ) (s : ℕ) (t : List ℕ) (v : TableVerdict) → claimed.numbersOf v ≡ tableVerdict f m s t
       → screen (tableLines f m s t) ≡ Passed → (v ≡ Right) ↔ table.Right (graph f m) s (take (cells f) t)
+  -- from C: 0 in the high half for the right table; else 40, and then the lowest cell that breaks the rule in the low half
+  pub table-call : (f : Floor) (m : List ℕ) (s : ℕ) (t : List ℕ) (x : ℕ) → x ≡ packed (asFault (tableVerdict f m s t)) → screen (tableLines f m s t) ≡ Passed
+      → ((x / 4294967296 ≡ 0) ↔ table.Right (graph f m) s (take (cells f) t))
+      × ((b : ℕ) → ((x / 4294967296 ≡ 40) × (x % 4294967296 ≡ b)) ↔ IsLowest f m s t b)
   pub none-claim : (f : Floor) (m : List ℕ) (s : ℕ) (t : List ℕ) (v : TableVerdict) → claimed.numbersOf v ≡ tableVerdict f m s t
       → v ≡ Right → (goal : ℕ) → goal < cells f
+      → (getD t goal 0 ≡ MARK) ↔ (Reachable (graph f m) s goal → ⊥)
+  pub none-call : (f : Floor) (m : List ℕ) (s : ℕ) (t : List ℕ) (x : ℕ) → x ≡ packed (asFault (tableVerdict f m s t))
+      → x / 4294967296 ≡ 0 → (goal : ℕ) → goal < cells f
       → (getD t goal 0 ≡ MARK) ↔ (Reachable (graph f m) s goal → ⊥)
   -- "a map written as text reads back the same", ways apart; n is the length that the writer returned
   pub map : (f : Floor) (m text text′ : List ℕ) (n : ℕ) → IsWritten f m text (Length n) text′
       → (room : List ℕ) (r : Read) (room′ : List ℕ) → IsRead (take n text′) room r room′ → cells f ≤ length room
       → (r ≡ Map (record { width = f .width; height = f .height; ways = 8 })) × (room′ ≡ m ++ drop (length m) room)
+  -- and so for the two calls from C, where a refusal of 0 says that the map was written
+  pub map-call : (f : Floor) (m text text′ : List ℕ) (x : WrittenNumbers) → WriteCalled f m text x text′ → x .refusal ≡ 0
+      → (room : List ℕ) (y : ReadNumbers) (room′ : List ℕ) → ReadCalled (take (x .length) text′) room y room′ → cells f ≤ length room
+      → (y ≡ readNumbers (gives (f .width ∷ f .height ∷ 8 ∷ []))) × (room′ ≡ m ++ drop (length m) room)
   -- judging answers what the reader does with a room of that length; a map that the program can use is what the reader reads
   pub judge : (text room : List ℕ) (r : Read) (room′ : List ℕ) → IsRead text room r room′ → (j : Read) → reading.numbersOf j ≡ readFor (readingOf text (length room)) → j ≡ r
+  pub judge-call : (text room : List ℕ) (x : ReadNumbers) (room′ : List ℕ) → ReadCalled text room x room′
+      → (j : ReadNumbers) → j ≡ readNumbers (readFor (readingOf text (length room))) → j ≡ x
   pub program-map : (text room : List ℕ) (f : Floor) (room′ : List ℕ) → IsUsed text room (Map f) room′ → IsRead text room (Map f) room′
