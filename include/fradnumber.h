@@ -19,9 +19,16 @@
 extern "C" {
 #endif
 
-/* What is wrong: 0, a refusal (1 to 12), or a fault in a claimed route (41 to 46). */
+/*
+ * The version of this header, major * 10000 + minor * 100 + patch. The major number rises with a change that a program must
+ * be changed for, the minor one with calls, fields at a struct's end or numbers that are new, the patch with all else. It
+ * changes here and nowhere else; docs/C.md says what each version brought.
+ */
+#define FRADNUMBER_VERSION 10100
+
+/* What is wrong: 0, a refusal (1 to 30), a cost table that is not right (40), or a fault in a claimed route (41 to 46). */
 enum fradnumber_number {
-    FRADNUMBER_HOLDS = 0,              /* the claim holds */
+    FRADNUMBER_HOLDS = 0,              /* nothing: the claim holds, the table is right, the text was read or written */
     FRADNUMBER_BAD_SIDE = 1,           /* width or height is 0 or above 256 */
     FRADNUMBER_BAD_LENGTH = 2,         /* the map's length is not width times height */
     FRADNUMBER_BAD_WEIGHT = 3,         /* a map byte is above 9; place: the lowest such cell */
@@ -34,6 +41,17 @@ enum fradnumber_number {
     FRADNUMBER_SHORT_WORK = 10,        /* the work room is shorter than 2 times width times height */
     FRADNUMBER_SHORT_ROUTE = 11,       /* the route room is shorter than width times height */
     FRADNUMBER_ROUTE_TOO_LONG = 12,    /* the route is longer than width times height, less 1 */
+    FRADNUMBER_BAD_TYPE_LINE = 21,     /* the first line is not `type octile`; place: its start, as for 22 to 24 */
+    FRADNUMBER_BAD_HEIGHT_LINE = 22,   /* the second line is not `height` and a number from 1 to 256 */
+    FRADNUMBER_BAD_WIDTH_LINE = 23,    /* the third line is not `width` and a number from 1 to 256 */
+    FRADNUMBER_BAD_MAP_LINE = 24,      /* the fourth line is not `map` */
+    FRADNUMBER_NO_CELL = 25,           /* no cell character where a cell is due; place: the byte's offset */
+    FRADNUMBER_NO_LINE_END = 26,       /* another byte than LF after a full row; place: the byte's offset */
+    FRADNUMBER_ENDS_TOO_SOON = 27,     /* the text ends before its last row does; place: the text's length */
+    FRADNUMBER_FURTHER_BYTE = 28,      /* a byte after the last row; place: its offset */
+    FRADNUMBER_SHORT_CELLS = 29,       /* the cell room is shorter than width times height */
+    FRADNUMBER_SHORT_TEXT = 30,        /* the text room is shorter than the text */
+    FRADNUMBER_BREAKS_RULE = 40,       /* the cost table is not right; place: the lowest cell that breaks the rule */
     FRADNUMBER_NO_SUCH_DIRECTION = 41, /* a direction is above 7, or odd with four ways; place: the step */
     FRADNUMBER_LEAVES_MAP = 42,        /* a step leaves the map; place: the step */
     FRADNUMBER_ENTERS_BLOCKED = 43,    /* a step enters a blocked cell; place: the step */
@@ -41,6 +59,9 @@ enum fradnumber_number {
     FRADNUMBER_NOT_AT_GOAL = 45,       /* the route ends elsewhere; place: the route's length */
     FRADNUMBER_COST_DIFFERS = 46       /* the route costs something else; place: the route's length */
 };
+
+/* No cost. */
+#define FRADNUMBER_MARK 4294967295u
 
 /*
  * Checks a claimed route.
@@ -58,12 +79,23 @@ uint64_t fradnumber_check_route(uint32_t width, uint32_t height, uint32_t ways,
                                 uint32_t start, uint32_t goal, uint32_t cost,
                                 const uint8_t *route, size_t route_length);
 
+/*
+ * Checks a claimed cost table of a start, which also settles a claimed "none": in a right table the cells that cannot be
+ * reached, and only those, have FRADNUMBER_MARK.
+ *
+ * The answer's high half is the number of the refusal, 0 if every reachable cell has its least cost and every other cell
+ * FRADNUMBER_MARK, and else FRADNUMBER_BREAKS_RULE; its low half is the place, or the lowest cell that breaks the rule: a
+ * blocked cell has FRADNUMBER_MARK, the start has 0, any other cell the smallest of value + step cost over the cells with a
+ * step into it whose value is not FRADNUMBER_MARK. Costs past the first width * height are not looked at.
+ */
+uint64_t fradnumber_check_table(uint32_t width, uint32_t height, uint32_t ways,
+                                const uint8_t *map, size_t map_length,
+                                uint32_t start,
+                                const uint32_t *costs, size_t costs_length);
+
 /* The two halves of the answer about a claim. */
 static inline uint32_t fradnumber_number_of(uint64_t answer) { return (uint32_t)(answer >> 32); }
 static inline uint32_t fradnumber_value_of(uint64_t answer) { return (uint32_t)(answer & 0xffffffffu); }
-
-/* No cost. */
-#define FRADNUMBER_MARK 4294967295u
 
 enum fradnumber_kind {
     FRADNUMBER_REFUSED = 0, /* refusal and place say why; no room was changed */
@@ -95,6 +127,41 @@ struct fradnumber_answer fradnumber_search(uint32_t width, uint32_t height, uint
                                            uint32_t *costs, size_t costs_length,
                                            uint32_t *work, size_t work_length,
                                            uint8_t *route, size_t route_length);
+
+struct fradnumber_read {
+    uint64_t refusal; /* enum fradnumber_number, 0 if the text is a map */
+    uint64_t place;   /* of the refusal */
+    uint64_t width;   /* 1 to 256, 0 if refused */
+    uint64_t height;  /* 1 to 256, 0 if refused */
+    uint64_t ways;    /* always 8, 0 if refused */
+};
+
+/*
+ * Reads map text: the lines `type octile`, `height H`, `width W`, `map`, then H rows of W characters, every line ended by LF
+ * alone, and nothing after. `.` and `G` are weight 1, `1` to `9` their own weight, `@`, `O` and `T` blocked.
+ *
+ * The cell room then begins with width * height bytes, row by row, as the calls above take them; the rest of it is as it
+ * was. The whole text is judged before a byte is stored: a refusal changes nothing.
+ */
+struct fradnumber_read fradnumber_read_map(const uint8_t *text, size_t text_length,
+                                           uint8_t *cells, size_t cells_length);
+
+/* What fradnumber_read_map would answer for a cell room of that many bytes; nothing is stored. 65536 are always enough. */
+struct fradnumber_read fradnumber_judge_map(const uint8_t *text, size_t text_length, size_t cells_length);
+
+struct fradnumber_written {
+    uint64_t refusal; /* enum fradnumber_number, 0 if the map was written */
+    uint64_t place;   /* of the refusal */
+    uint64_t length;  /* of the text in bytes, 0 if refused */
+};
+
+/*
+ * Writes a map as text, with `@` for blocked cells, `.` for weight 1, and `2` to `9`. No byte follows the last row's LF: the
+ * rest of the text room is as it was, and all of it is if the map is refused. A text has at most 65829 bytes.
+ */
+struct fradnumber_written fradnumber_write_map(uint32_t width, uint32_t height,
+                                               const uint8_t *map, size_t map_length,
+                                               uint8_t *text, size_t text_length);
 
 #ifdef __cplusplus
 }

@@ -1,22 +1,7 @@
 /*
- * The route check, called from C: every refusal and every fault, empty slices, the longest route. It uses no header but the
- * project's own, so that it also builds where only the kit's compiler makes programs for x86-64.
+ * The route check, called from C: every refusal and every fault, empty slices, the longest route.
  */
-#include "fradnumber.h"
-
-int printf(const char *format, ...);
-
-static int wrong, tried;
-
-static void expect(const char *what, uint64_t answer, uint32_t number, uint32_t value)
-{
-    tried++;
-    if (fradnumber_number_of(answer) != number || fradnumber_value_of(answer) != value) {
-        wrong++;
-        printf("%s: %lu, %lu and not %lu, %lu\n", what, (unsigned long)fradnumber_number_of(answer),
-               (unsigned long)fradnumber_value_of(answer), (unsigned long)number, (unsigned long)value);
-    }
-}
+#include "expect.h"
 
 /* Case a of the customer's paper: .@. over ... */
 static const uint8_t a[6] = {1, 0, 1, 1, 1, 1};
@@ -32,40 +17,40 @@ static void refusals(void)
     static uint8_t wide[257];
     uint32_t i;
     for (i = 0; i < 257; i++) wide[i] = 1;
-    expect("width 0", fradnumber_check_route(0, 2, 8, a, 6, 0, 2, 0, 0, 0), 1, 0);
-    expect("height 257", fradnumber_check_route(1, 257, 8, wide, 257, 0, 0, 0, 0, 0), 1, 0);
-    expect("height 256", fradnumber_check_route(1, 256, 8, wide, 256, 0, 0, 0, 0, 0), 0, 0);
-    expect("width 2^32 - 1", fradnumber_check_route(4294967295u, 4294967295u, 8, a, 6, 0, 2, 0, 0, 0), 1, 0);
-    expect("a map too short", fradnumber_check_route(3, 2, 8, a, 5, 0, 2, 0, 0, 0), 2, 0);
-    expect("no map", fradnumber_check_route(1, 1, 8, 0, 0, 0, 0, 0, 0, 0), 2, 0);
-    expect("a weight of 10", fradnumber_check_route(2, 2, 8, heavy, 4, 0, 1, 0, 0, 0), 3, 2);
-    expect("a weight of 9", fradnumber_check_route(2, 1, 8, heavy, 2, 0, 1, 630, (const uint8_t *)"\2", 1), 0, 630);
-    expect("five ways", on_a(5, 0, 2, 0, 0, 0), 4, 0);
-    expect("260 ways", on_a(260, 0, 2, 0, 0, 0), 4, 0);
-    expect("start off the map", on_a(8, 6, 9, 0, 0, 0), 5, 0);
-    expect("goal off the map, start blocked", on_a(8, 1, 6, 0, 0, 0), 6, 0);
-    expect("goal 2^32 - 1", on_a(8, 0, 4294967295u, 0, 0, 0), 6, 0);
-    expect("both blocked", fradnumber_check_route(2, 2, 8, barred, 4, 0, 3, 0, 0, 0), 7, 0);
-    expect("goal blocked", on_a(8, 0, 1, 0, 0, 0), 8, 0);
-    expect("as many steps as cells", on_a(8, 0, 2, 0, steps, 6), 12, 0);
-    expect("one step on one cell", fradnumber_check_route(1, 1, 8, wide, 1, 0, 0, 0, steps, 1), 12, 0);
+    expect_claim("width 0", fradnumber_check_route(0, 2, 8, a, 6, 0, 2, 0, 0, 0), 1, 0);
+    expect_claim("height 257", fradnumber_check_route(1, 257, 8, wide, 257, 0, 0, 0, 0, 0), 1, 0);
+    expect_claim("height 256", fradnumber_check_route(1, 256, 8, wide, 256, 0, 0, 0, 0, 0), 0, 0);
+    expect_claim("width 2^32 - 1", fradnumber_check_route(4294967295u, 4294967295u, 8, a, 6, 0, 2, 0, 0, 0), 1, 0);
+    expect_claim("a map too short", fradnumber_check_route(3, 2, 8, a, 5, 0, 2, 0, 0, 0), 2, 0);
+    expect_claim("no map", fradnumber_check_route(1, 1, 8, 0, 0, 0, 0, 0, 0, 0), 2, 0);
+    expect_claim("a weight of 10", fradnumber_check_route(2, 2, 8, heavy, 4, 0, 1, 0, 0, 0), 3, 2);
+    expect_claim("a weight of 9", fradnumber_check_route(2, 1, 8, heavy, 2, 0, 1, 630, (const uint8_t *)"\2", 1), 0, 630);
+    expect_claim("five ways", on_a(5, 0, 2, 0, 0, 0), 4, 0);
+    expect_claim("260 ways", on_a(260, 0, 2, 0, 0, 0), 4, 0);
+    expect_claim("start off the map", on_a(8, 6, 9, 0, 0, 0), 5, 0);
+    expect_claim("goal off the map, start blocked", on_a(8, 1, 6, 0, 0, 0), 6, 0);
+    expect_claim("goal 2^32 - 1", on_a(8, 0, 4294967295u, 0, 0, 0), 6, 0);
+    expect_claim("both blocked", fradnumber_check_route(2, 2, 8, barred, 4, 0, 3, 0, 0, 0), 7, 0);
+    expect_claim("goal blocked", on_a(8, 0, 1, 0, 0, 0), 8, 0);
+    expect_claim("as many steps as cells", on_a(8, 0, 2, 0, steps, 6), 12, 0);
+    expect_claim("one step on one cell", fradnumber_check_route(1, 1, 8, wide, 1, 0, 0, 0, steps, 1), 12, 0);
 }
 
 static void claims(void)
 {
     static const uint8_t route[4] = {4, 2, 2, 0}, north[1] = {0}, east[1] = {2}, southeast[1] = {3}, nine[2] = {4, 9};
     static const uint8_t cross[4] = {1, 0, 0, 1};
-    expect("case a", on_a(8, 0, 2, 280, route, 4), 0, 280);
-    expect("no step and no goal", on_a(8, 0, 0, 0, 0, 0), 0, 0);
-    expect("no step, cost 1", on_a(8, 0, 0, 1, 0, 0), 46, 0);
-    expect("a direction above 7", on_a(8, 0, 2, 280, nine, 2), 41, 1);
-    expect("a diagonal with four ways", on_a(4, 0, 4, 99, southeast, 1), 41, 0);
-    expect("leaves the map", on_a(8, 0, 2, 280, north, 1), 42, 0);
-    expect("enters a blocked cell", on_a(8, 0, 2, 280, east, 1), 43, 0);
-    expect("cuts a corner", on_a(8, 0, 2, 280, southeast, 1), 44, 0);
-    expect("case l, route 3", fradnumber_check_route(2, 2, 8, cross, 4, 0, 3, 99, southeast, 1), 44, 0);
-    expect("elsewhere and at another cost", on_a(8, 0, 2, 0, route, 3), 45, 3);
-    expect("another cost", on_a(8, 0, 2, 279, route, 4), 46, 4);
+    expect_claim("case a", on_a(8, 0, 2, 280, route, 4), 0, 280);
+    expect_claim("no step and no goal", on_a(8, 0, 0, 0, 0, 0), 0, 0);
+    expect_claim("no step, cost 1", on_a(8, 0, 0, 1, 0, 0), 46, 0);
+    expect_claim("a direction above 7", on_a(8, 0, 2, 280, nine, 2), 41, 1);
+    expect_claim("a diagonal with four ways", on_a(4, 0, 4, 99, southeast, 1), 41, 0);
+    expect_claim("leaves the map", on_a(8, 0, 2, 280, north, 1), 42, 0);
+    expect_claim("enters a blocked cell", on_a(8, 0, 2, 280, east, 1), 43, 0);
+    expect_claim("cuts a corner", on_a(8, 0, 2, 280, southeast, 1), 44, 0);
+    expect_claim("case l, route 3", fradnumber_check_route(2, 2, 8, cross, 4, 0, 3, 99, southeast, 1), 44, 0);
+    expect_claim("elsewhere and at another cost", on_a(8, 0, 2, 0, route, 3), 45, 3);
+    expect_claim("another cost", on_a(8, 0, 2, 279, route, 4), 46, 4);
 }
 
 /* Every cell of 256 by 256 cells of weight 9, row by row and back: 65,535 straight steps. */
@@ -78,10 +63,10 @@ static void longest(void)
         for (i = 0; i < 255; i++) route[n++] = row % 2 == 0 ? 2 : 6;
         route[n++] = 4;
     }
-    expect("the longest route", fradnumber_check_route(256, 256, 8, map, 65536, 0, 65280, 41287050, route, 65535), 0, 41287050);
-    expect("one step more", fradnumber_check_route(256, 256, 8, map, 65536, 0, 65280, 41287050, route, 65536), 12, 0);
+    expect_claim("the longest route", fradnumber_check_route(256, 256, 8, map, 65536, 0, 65280, 41287050, route, 65535), 0, 41287050);
+    expect_claim("one step more", fradnumber_check_route(256, 256, 8, map, 65536, 0, 65280, 41287050, route, 65536), 12, 0);
     route[65534] = 7;
-    expect("its last step", fradnumber_check_route(256, 256, 4, map, 65536, 0, 65280, 41287050, route, 65535), 41, 65534);
+    expect_claim("its last step", fradnumber_check_route(256, 256, 4, map, 65536, 0, 65280, 41287050, route, 65535), 41, 65534);
 }
 
 int main(void)
@@ -89,6 +74,5 @@ int main(void)
     refusals();
     claims();
     longest();
-    printf("%d calls, %d wrong\n", tried, wrong);
-    return wrong != 0;
+    return end_of_test("route check");
 }

@@ -1,14 +1,10 @@
 /*
- * The search, called from C: the three kinds of answer, every refusal, and what is left in the rooms. It uses no header but
- * the project's own, so that it also builds where only the kit's compiler makes programs for x86-64.
+ * The search, called from C: the three kinds of answer, every refusal, and what is left in the rooms.
  */
-#include "fradnumber.h"
-
-int printf(const char *format, ...);
+#include "expect.h"
 
 enum { ROOM = 16, OLD = 77 };
 
-static int wrong, tried;
 static uint32_t costs[ROOM], work[ROOM];
 static uint8_t route[ROOM];
 
@@ -46,11 +42,7 @@ static void expect_rooms(const char *what, const uint32_t *left, int cells, int 
         if (work[i] != (i < zeros ? 0 : OLD)) good = 0;
         if (route[i] != (i < length ? steps[i] : OLD)) good = 0;
     }
-    tried++;
-    if (!good) {
-        wrong++;
-        printf("%s: the rooms are not as they should be\n", what);
-    }
+    expect_true(what, good);
 }
 
 static struct fradnumber_answer on_a(uint32_t limit)
@@ -97,6 +89,5 @@ int main(void)
 {
     answers();
     refusals();
-    printf("%d looks, %d wrong\n", tried, wrong);
-    return wrong != 0;
+    return end_of_test("search");
 }
