@@ -1,27 +1,24 @@
 /*
  * Asks for least-cost routes and prints the answers, one line a question.
  *
- *   search FILE                                      questions from a file (see halls.txt)
- *   search WIDTH HEIGHT WAYS CELLS START GOAL LIMIT  one question; CELLS is a string of digits, 0 blocked, 1 to 9 weights
+ *   search FILE                         questions from a file (see questions.txt)
+ *   search MAP WAYS START GOAL LIMIT    one question about a file of map text
  *
  * A route is printed as digits, a step each: 0 N, 1 NE, 2 E, 3 SE, 4 S, 5 SW, 6 W, 7 NW.
- * Exit status: 0 if every question was answered, 1 if one was refused, 2 if the input cannot be read.
+ * Exit status: 0 if every question was answered, 1 if a map or a question was refused, 2 if the input cannot be read.
  */
 #include <stdio.h>
 #include <string.h>
 
+#include "../mapfile.h"
 #include "../words.h"
 #include "fradnumber.h"
 
-enum { MOST = 256 * 256 };
-
 /* The rooms that are lent to each call. They suffice for the largest floor; what they held before does not matter. */
-static uint32_t costs[MOST], work[2 * MOST];
-static uint8_t route[MOST];
+static uint32_t costs[MOST_CELLS], work[2 * MOST_CELLS];
+static uint8_t route[MOST_CELLS];
 
-static uint8_t map[MOST];
-static size_t map_length;
-static uint32_t width, height, ways;
+static uint32_t ways;
 
 static void print_route(uint64_t length)
 {
@@ -34,7 +31,7 @@ static void print_route(uint64_t length)
 static int ask(uint32_t start, uint32_t goal, uint32_t limit)
 {
     struct fradnumber_answer answer = fradnumber_search(width, height, ways, map, map_length, start, goal, limit,
-                                                        costs, MOST, work, 2 * MOST, route, MOST);
+                                                        costs, MOST_CELLS, work, 2 * MOST_CELLS, route, MOST_CELLS);
     switch (answer.kind) {
     case FRADNUMBER_FOUND:
         printf("found at cost %lu, %lu settled, route ", (unsigned long)answer.number, (unsigned long)answer.settled);
@@ -48,7 +45,7 @@ static int ask(uint32_t start, uint32_t goal, uint32_t limit)
         printf("stopped after %lu, floor %lu\n", (unsigned long)answer.settled, (unsigned long)answer.number);
         return 1;
     default:
-        printf("refused %lu at %lu: %s\n", (unsigned long)answer.refusal, (unsigned long)answer.place, refusal_in_words(answer.refusal));
+        printf("refused %lu at %lu: %s\n", (unsigned long)answer.refusal, (unsigned long)answer.place, in_words(answer.refusal));
         return 0;
     }
 }
@@ -59,44 +56,21 @@ static int bad(const char *what)
     return 2;
 }
 
-/* Adds digits to the map; any other character becomes 255, which the search refuses. 0 if there is no room for them. */
-static int add_cells(const char *digits)
-{
-    for (; *digits != '\0'; digits++) {
-        if (map_length == MOST) return 0;
-        map[map_length++] = byte_of(*digits);
-    }
-    return 1;
-}
-
-static int word(FILE *file, char *text)
-{
-    return fscanf(file, "%1023s", text) == 1;
-}
-
-static int number(FILE *file, char *text, uint32_t *to)
-{
-    return word(file, text) && number_of(text, to);
-}
-
 static int ask_file(FILE *file)
 {
-    static char text[1024];
-    uint32_t start, goal, limit, row;
+    static char text[MOST_LETTERS + 1], path[MOST_LETTERS + 1];
+    uint32_t start, goal, limit;
     int all = 1;
     while (word(file, text)) {
-        if (strcmp(text, "floor") == 0) {
-            if (!number(file, text, &width) || !number(file, text, &height) || !number(file, text, &ways))
-                return bad("after `floor` come width, height and ways");
-            map_length = 0;
-            for (row = 0; row < height && row < 256; row++)
-                if (!word(file, text) || !add_cells(text)) return bad("a floor has a row for each number of its height");
+        if (strcmp(text, "map") == 0) {
+            if (!word(file, path) || !number(file, text, &ways)) return bad("after `map` come the map's file and ways");
+            if (!read_map_file(path)) all = 0;
         } else if (strcmp(text, "ask") == 0) {
             if (!number(file, text, &start) || !number(file, text, &goal) || !number(file, text, &limit))
                 return bad("after `ask` come start, goal and limit");
             if (!ask(start, goal, limit)) all = 0;
         } else {
-            return bad("a line begins with `floor` or `ask`");
+            return bad("a line begins with `map` or `ask`");
         }
     }
     return all ? 0 : 1;
@@ -113,9 +87,8 @@ int main(int argc, char **argv)
         fclose(file);
         return status;
     }
-    if (argc != 8) return bad("usage: search FILE, or search WIDTH HEIGHT WAYS CELLS START GOAL LIMIT");
-    if (!number_of(argv[1], &width) || !number_of(argv[2], &height) || !number_of(argv[3], &ways) || !add_cells(argv[4])
-        || !number_of(argv[5], &start) || !number_of(argv[6], &goal) || !number_of(argv[7], &limit))
-        return bad("a number is not one from 0 to 4294967295, or there are too many cells");
-    return ask(start, goal, limit) ? 0 : 1;
+    if (argc != 6) return bad("usage: search FILE, or search MAP WAYS START GOAL LIMIT");
+    if (!number_of(argv[2], &ways) || !number_of(argv[3], &start) || !number_of(argv[4], &goal) || !number_of(argv[5], &limit))
+        return bad("a number is not one from 0 to 4294967295");
+    return read_map_file(argv[1]) && ask(start, goal, limit) ? 0 : 1;
 }

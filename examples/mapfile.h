@@ -1,0 +1,56 @@
+/*
+ * The map that an example works on, read from a file of map text.
+ */
+#ifndef FRADNUMBER_EXAMPLES_MAPFILE_H
+#define FRADNUMBER_EXAMPLES_MAPFILE_H
+
+#include <stdio.h>
+
+#include "words.h"
+
+enum { MOST_CELLS = 256 * 256, LONGEST_TEXT = 65829 };
+
+static uint8_t map[MOST_CELLS];
+static size_t map_length;
+static uint32_t width, height;
+
+/* 1 if the file's text is a map; says what is wrong with it otherwise, and leaves a map of no cells. */
+static int read_map_file(const char *path)
+{
+    static uint8_t text[LONGEST_TEXT + 1]; /* with one byte more than any map has, a file that goes on is refused as the whole is */
+    struct fradnumber_read read;
+    size_t length;
+    FILE *file = fopen(path, "rb");
+    width = height = 0;
+    map_length = 0;
+    if (file == NULL) {
+        printf("%s cannot be opened\n", path);
+        return 0;
+    }
+    length = fread(text, 1, sizeof text, file);
+    fclose(file);
+    read = fradnumber_read_map(text, length, map, MOST_CELLS);
+    if (read.refusal != 0) {
+        printf("%s: refused %lu at %lu: %s\n", path, (unsigned long)read.refusal, (unsigned long)read.place, in_words(read.refusal));
+        return 0;
+    }
+    width = (uint32_t)read.width;
+    height = (uint32_t)read.height;
+    map_length = (size_t)width * height;
+    return 1;
+}
+
+/* A word of at most 65536 characters; 0 at the end of the file. */
+enum { MOST_LETTERS = 65536 };
+
+static int word(FILE *file, char *text)
+{
+    return fscanf(file, "%65536s", text) == 1;
+}
+
+static int number(FILE *file, char *text, uint32_t *to)
+{
+    return word(file, text) && number_of(text, to);
+}
+
+#endif
