@@ -1,14 +1,14 @@
 -- What the calls from C promise: the numbers of the reader and the writer in a struct, in which those that a case does not have are 0.
 use mathlib.Core.Path.{_≡_}
-use mathlib.Core.List.{List, [], _∷_}
+use mathlib.Core.List.{List}
 use Prim.Native.Nat.{ℕ}
 use lib.ListN.{length, getD}
 use Rattle.floor.specs.declared.Floor.{Floor}
-use Rattle.floor.specs.Numbers.{Numbers, refused, fault, gives, afterScreen}
+use Rattle.floor.specs.Numbers.{Numbers, refused, fault, gives}
 use Rattle.floor.specs.Refusal.{screen}
 use Rattle.maptext.specs.declared.ReadNumbers.{ReadNumbers}
 use Rattle.maptext.specs.declared.WrittenNumbers.{WrittenNumbers}
-use Rattle.maptext.specs.Text.{textOf, writeLines, textLeft}
+use Rattle.maptext.specs.Text.{textOf, writeLines, writtenFor, textLeft}
 use Rattle.maptext.specs.Reading.{readingOf, readFor, cellsLeft}
 
 -- refusal and place, or width, height and ways
@@ -30,5 +30,5 @@ pub record ReadCalled (text room : List ℕ) (n : ReadNumbers) (room′ : List �
 
 -- and of the writer's
 pub record WriteCalled (f : Floor) (m room : List ℕ) (n : WrittenNumbers) (room′ : List ℕ) : Type 0 where
-  pub numbers : n ≡ writtenNumbers (afterScreen (screen (writeLines f m (length room))) (gives (length (textOf (f .width) (f .height) m) ∷ [])))
+  pub numbers : n ≡ writtenNumbers (writtenFor f m (length room))
   pub leaves : room′ ≡ textLeft (textOf (f .width) (f .height) m) room (screen (writeLines f m (length room)))

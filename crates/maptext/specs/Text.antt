@@ -52,13 +52,17 @@ abbrev pub numbersOf : Written → Numbers
 numbersOf (Length n) = gives (n ∷ [])
 numbersOf (Written.Refused n p) = refused n p
 
+-- the writer's answer, for a room of that length, and what the room holds afterwards
+abbrev pub writtenFor : Floor → List ℕ → ℕ → Numbers
+writtenFor f m room = afterScreen (screen (writeLines f m room)) (gives (length (textOf (f .width) (f .height) m) ∷ []))
+
 abbrev pub textLeft : List ℕ → List ℕ → Screen → List ℕ
 textLeft text room Passed = text ++ drop (length text) room
 textLeft text room (Refused n p) = room
 
 -- the writer's promise, for a room of any length and content
 pub record IsWritten (f : Floor) (m room : List ℕ) (r : Written) (room′ : List ℕ) : Type 0 where
-  pub answers : numbersOf r ≡ afterScreen (screen (writeLines f m (length room))) (gives (length (textOf (f .width) (f .height) m) ∷ []))
+  pub answers : numbersOf r ≡ writtenFor f m (length room)
   pub leaves : room′ ≡ textLeft (textOf (f .width) (f .height) m) room (screen (writeLines f m (length room)))
 
 -- the writer could have written the text: it is the text of a floor and a map that pass 1 to 3
