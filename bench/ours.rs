@@ -3,11 +3,7 @@
 use crate::question::{Answer, Question, Rooms};
 
 extern "C" {
-    // In the header the answer is what the call returns. On x86-64 a struct of this size is returned through a pointer that
-    // is passed before all else and given back; in the library's LLVM module that pointer is an ordinary parameter, and it
-    // stays one when the module is compiled for another machine. So it is declared as one, which is the same call on x86-64.
     fn fradnumber_search(
-        answer: *mut Answer,
         width: u32,
         height: u32,
         ways: u32,
@@ -22,16 +18,14 @@ extern "C" {
         work_length: usize,
         route: *mut u8,
         route_length: usize,
-    ) -> *mut Answer;
+    ) -> Answer;
 }
 
 /// The search has no conditions: any numbers and any lengths may be passed.
 pub fn search(question: &Question, rooms: &mut Rooms) -> Answer {
-    let mut answer = Answer::default();
     // Safe: each pointer and its length are those of one slice, and the slices do not overlap.
     unsafe {
         fradnumber_search(
-            &mut answer,
             question.width,
             question.height,
             question.ways,
@@ -46,7 +40,6 @@ pub fn search(question: &Question, rooms: &mut Rooms) -> Answer {
             rooms.work.len(),
             rooms.route.as_mut_ptr(),
             rooms.route.len(),
-        );
+        )
     }
-    answer
 }
