@@ -8,38 +8,20 @@ import random
 import selectors
 import subprocess
 import sys
-import tempfile
-import time
-from pathlib import Path
 
 from expected import MARK, RECORD, fresh_answers, maptexts, output, question
-
-COMMAND = sys.argv[1:]
-LONG = 60  # seconds that no run takes
+from starting import COMMAND, LONG, compare, in_folder, run
 
 
-def run(folder, records):
-    """What the program writes; its status is 0, also where it refuses the map."""
-    ran = subprocess.run(COMMAND, cwd=folder, input=records, stdout=subprocess.PIPE, timeout=LONG, check=False)
-    if ran.returncode != 0:
-        sys.exit(f"planner: ended with status {ran.returncode}")
-    return ran.stdout
-
-
-def compare(name, got, due):
-    if got != due:
-        sys.exit(f"planner: {name}: wrote {got[:64]!r}.., due is {due[:64]!r}..")
-
-
-def in_folder(text, act):
-    with tempfile.TemporaryDirectory() as folder:
-        if text is not None:
-            Path(folder, "floor.map").write_bytes(text)
-        return act(folder)
+def broken_line(records):
+    """What standard error says of a broken last record."""
+    broken = len(records) % RECORD
+    return b"planner: no answer to the last %d bytes, which are no whole record\n" % broken if broken else b""
 
 
 def try_text(text, records=b""):
-    in_folder(text, lambda folder: compare(text[:80], run(folder, records), output(text, records)))
+    said = b"" if output(text, b"") else broken_line(records)
+    in_folder(text, lambda folder: compare(text[:80], run(folder, records, said), output(text, records)))
 
 
 # ---- maps that cannot be used ----------------------------------------------------------------------------------------------
@@ -101,7 +83,7 @@ def floors():
 
 def dribble(folder, text, records, size):
     """Sends `size` bytes at a time, the next only when every whole record that was sent is answered."""
-    program = subprocess.Popen(COMMAND, cwd=folder, stdin=subprocess.PIPE, stdout=subprocess.PIPE)
+    program = subprocess.Popen(COMMAND, cwd=folder, stdin=subprocess.PIPE, stdout=subprocess.PIPE, stderr=subprocess.PIPE)
     got = b""
     due = output(text, records)
     with selectors.DefaultSelector() as waiting:
@@ -120,26 +102,7 @@ def dribble(folder, text, records, size):
     got += program.stdout.read()
     program.wait(LONG)
     compare(f"pieces of {size}", got, due)
-
-
-def stops_at_closed_output(folder, told):
-    """The reader of the answers goes away while questions go on coming: the program ends by itself, told by a signal or by the write that fails."""
-    program = subprocess.Popen(
-        COMMAND, cwd=folder, stdin=subprocess.PIPE, stdout=subprocess.PIPE, stderr=subprocess.DEVNULL, restore_signals=told
-    )
-    program.stdout.close()
-    end = time.monotonic() + LONG
-    try:
-        while program.poll() is None and time.monotonic() < end:
-            program.stdin.write(question(0, 2, 5, 8) * 64)
-            program.stdin.flush()
-    except BrokenPipeError:
-        pass
-    try:
-        program.wait(LONG)
-    except subprocess.TimeoutExpired:
-        program.kill()
-        sys.exit("planner: it runs on after its output was closed")
+    compare(f"pieces of {size}, standard error", program.stderr.read(), broken_line(records))
 
 
 def main():
@@ -149,7 +112,6 @@ def main():
         try_text(text, records)
     missing = b"map missing\n"
     in_folder(None, lambda folder: compare("no file", run(folder, records), missing))
-    in_folder(None, lambda folder: (Path(folder, "floor.map").mkdir(), compare("a folder", run(folder, records), missing)))
     numbers = sorted({int(output(text, b"").split()[2]) for text in texts if output(text, b"")})
     print(f"planner: {len(texts)} texts, refused as {', '.join(map(str, numbers))}; map missing")
 
@@ -168,10 +130,8 @@ def main():
     for size in (1, 3, 7, 16, 17):
         in_folder(text, lambda folder, size=size: dribble(folder, text, records, size))
     many = b"".join(asked) * 5000
-    in_folder(text, lambda folder: compare("much input", run(folder, many + records), b"".join([output(text, b"".join(asked))] * 5000) + output(text, records)))
-    for told in (True, False):
-        in_folder(text, lambda folder, told=told: stops_at_closed_output(folder, told))
-    print("planner: pieces of 1, 3, 7, 16 and 17 bytes, 25005 questions at once, a closed output")
+    in_folder(text, lambda folder: compare("much input", run(folder, many + records, broken_line(records)), b"".join([output(text, b"".join(asked))] * 5000) + output(text, records)))
+    print("planner: pieces of 1, 3, 7, 16 and 17 bytes, 25005 questions at once")
 
 
 main()

@@ -169,9 +169,18 @@ def without_rt(folder):
     """A PATH that has what tools/start needs, and no rt."""
     bare = Path(folder, "bare")
     bare.mkdir()
-    for name in ("dirname", "readlink", "uname"):
+    for name in ("bash", "dirname", "readlink", "uname"):
         (bare / name).symlink_to(shutil.which(name))
     return {"PATH": str(bare)}
+
+
+def with_failing_program(folder):
+    """A kit whose programs say what the planner says when a write fails, and end with status 0 as it does."""
+    loader = Path(folder, "kit", "on", os.uname().machine, "toolchain", "lib", "ld-linux-x86-64.so.2")
+    loader.parent.mkdir(parents=True)
+    loader.write_text("#!/bin/sh\necho 'planner: 2 answers and 3 bytes written, then writing answers failed: No space left on device' >&2\n")
+    loader.chmod(0o755)
+    return {"RATTLE_HOME": str(Path(folder, "kit"))}
 
 
 def test_start(folder):
@@ -186,7 +195,11 @@ def test_start(folder):
     expect_run(["calls"], 2, [], ["the Rattle kit is missing"], command=start, env=bare)
     expect_run([HALLS / "row.map", "--from", "0,0", "--to", "1,0"], 2, [], ["the Rattle kit is missing", "rt check calls"], env=bare)
     expect_run([], 2, [], ["the Rattle kit is missing"], command=[shutil.which("bash"), str(ROOT / "run")], env=bare)
-    print("tools: a program is started in another folder; no such program, no kit")
+    failing = with_failing_program(folder)
+    expect_run(["planner"], 1, [], ["2 answers and 3 bytes written, then writing answers failed: No space"], command=start, env=failing)
+    asked = [HALLS / "row.map", "--replay", HALLS / "row.questions"]
+    expect_run(asked, 2, [], ["2 answers and 3 bytes written", "could not read or write all"], env=failing)
+    print("tools: a program is started in another folder; no such program, no kit, a program that fails")
 
 
 def test_closed_pipe():

@@ -78,19 +78,22 @@ def read_text(path):
 
 
 def run_planner(text, questions):
-    """What the planner answers to question records on this map: answer records, or why the map cannot be used."""
+    """What the planner answers to question records on this map: answer records, or why the map cannot be used. A broken last record is not handed on."""
+    questions = b"".join(whole_records(questions))
     with tempfile.TemporaryDirectory() as folder:
         Path(folder, "floor.map").write_bytes(text)
         try:
             run = subprocess.run([str(START), "planner"], input=questions, stdout=subprocess.PIPE, cwd=folder, check=False)
         except OSError as error:
             raise Trouble(f"tools/start cannot be started: {error.strerror}") from None
+    if run.returncode == 1:
+        raise Trouble("the program planner could not read or write all; the line above says how far it came")
     if run.returncode != 0:
         raise Trouble(f"the program planner ended with status {run.returncode}; 'rt check planner' builds it")
     refused = re.fullmatch(rb"map refused (\d+) at (\d+)\n", run.stdout)
     if refused:
         return MapRefusal(int(refused[1]), int(refused[2]))
-    if len(run.stdout) != len(questions) // RECORD * RECORD:
+    if len(run.stdout) != len(questions):
         raise Trouble("the program planner did not answer every question; 'rt check planner' builds it anew")
     return run.stdout
 

@@ -1,14 +1,20 @@
 // The program: 01, "The program". It reads `floor.map`, then answers question records from standard input. All that it says is decided in `desk`.
+// A read or a write that fails ends it, with one line on standard error.
 ghost use mathlib.Core.Path.{_≡_};
+ghost use mathlib.Core.Bool.{false};
 ghost use mathlib.Core.List.{[]};
 ghost use Prim.Native.Nat.{_≤_, _<_};
 ghost use lib.ListN.{length, take};
 ghost use Rattle.search.specs.Search.{rooms};
 ghost use Rattle.recordlayout.specs.Record.{recordSize};
+ghost use Rattle.streams.specs.Streams.{TextIn};
 ghost use Rattle.desk.specs.Use.{greatestText, greatestUsedCells};
 ghost use Rattle.desk.specs.Room.{EnoughRoom};
-ghost use Rattle.planner.specs.Rooms.{PieceIn, TextIn, textAtEnd};
+ghost use Rattle.planner.specs.Gone.{counted, Gone};
 ghost use Rattle.planner.specs.SoFar.{TurnTaken, SomeTurn, AllSoFar};
+
+mod telling; // telling.rt: what the program says beside its answers
+
 use desk::GREATEST_TEXT;
 use desk::GREATEST_USED_CELLS;
 use desk::answer_arrived;
@@ -18,78 +24,28 @@ use floor::Floor;
 use libc::STDIN_FILENO;
 use libc::STDOUT_FILENO;
 use maptext::Read;
+use streams::Piece;
+use streams::Text;
+use streams::read_piece;
+use streams::read_text;
+use streams::write_out;
+use telling::print_missing;
+use telling::print_refused;
+use telling::tell_broken;
+use telling::tell_failure;
 
-// What one read brought: so many bytes, the end of the input, or a failure.
-enum Piece {
-    Bytes(usize),
-    End,
-    Failure,
+// How many bytes have gone out so far, and whether all went that were to go now.
+struct Sent {
+    gone: u64,
+    all: bool,
 }
 
-// The length of the text that was read from a file, or that it could not be read.
-enum Text {
-    Length(usize),
-    Unread,
-}
-
-// What a turn leaves: how many bytes of a record that has not come whole stand at the buffer's front, and whether there may be more to read.
+// What a turn leaves: how many bytes of a record that has not come whole stand at the buffer's front, how many bytes of answers have gone out so far, and
+// whether there may be more to read.
 struct Turn {
     kept: usize,
+    gone: u64,
     more: bool,
-}
-
-fn print(text: &[u8]) {
-    io::write_all(STDOUT_FILENO, text);
-}
-
-fn print_refused(number: u32, place: usize) {
-    print(b"map refused ");
-    io::print_decimal(STDOUT_FILENO, number as u64);
-    print(b" at ");
-    io::print_decimal(STDOUT_FILENO, place as u64);
-    print(b"\n");
-}
-
-// One read into the room from `have` on. There is room for a byte at least: else no bytes would not mean that the input has ended.
-fn read_piece(file: i32, room: &mut [u8], have: usize) -> Piece
-    requires { ⌜ have < length (now room) ⌝ }
-    ensures { λ r. ⌜ PieceIn (now (room .exit)) have r × (take have (now (room .exit)) ≡ take have (now (room .entry))) ⌝ }
-{
-    let got = libc::read(file, &mut room[have..]);
-    if got < 0 {
-        return Piece::Failure;
-    }
-    let count = io::count(got, &room[have..]);
-    if count == 0 {
-        return Piece::End;
-    }
-    Piece::Bytes(count)
-}
-
-// The text at the last piece, which had no bytes.
-fn text_at_end(piece: Piece, have: usize) -> Text
-    ensures { λ r. ⌜ r ≡ textAtEnd piece have ⌝ }
-{
-    match piece {
-        Piece::Bytes(_) => Text::Length(have),
-        Piece::End => Text::Length(have),
-        Piece::Failure => Text::Unread,
-    }
-}
-
-// Reads until the file ends or the room is full.
-fn read_text(file: i32, room: &mut [u8]) -> Text
-    ensures { λ r. ⌜ TextIn (now (room .exit)) r ⌝ }
-{
-    let mut have = 0;
-    while have < room.len() {
-        let piece = read_piece(file, room, have);
-        let Piece::Bytes(count) = piece else {
-            return text_at_end(piece, have);
-        };
-        have += count;
-    }
-    Text::Length(have)
 }
 
 // A folder can be opened and not be read: there is no map then either. If the room is filled, the text is too long, whatever else the file has.
@@ -102,8 +58,35 @@ fn read_file(room: &mut [u8]) -> Text
         return Text::Unread;
     }
     let text = read_text(file, room);
+    if let Text::Unread = text {
+        tell_failure(b"reading floor.map failed", 0);
+    }
     libc::close(file);
     text
+}
+
+// A count that goes no further than its greatest number.
+fn add_to(count: u64, more: usize) -> u64
+    ensures { λ r. ⌜ r ≡ counted count more ⌝ }
+{
+    let more = more as u64;
+    if u64::MAX - count < more {
+        return u64::MAX;
+    }
+    count + more
+}
+
+// Writes answers; `before` bytes have gone out before them.
+fn write_answers(answers: &[u8], before: u64) -> Sent
+    ensures { λ r. ⌜ Gone (now (answers .entry)) before (r .gone) (r .all) ⌝ }
+{
+    let taken = write_out(STDOUT_FILENO, answers);
+    let gone = add_to(before, taken);
+    let all = taken == answers.len();
+    if !all {
+        tell_failure(b"writing answers failed", gone);
+    }
+    Sent { gone, all }
 }
 
 // Answers every whole record among the first `end` bytes of the buffer, which have arrived, writes the answers, and keeps a broken last record.
@@ -112,16 +95,36 @@ fn answer_piece(
     map: &[u8],
     buffer: &mut [u8],
     end: usize,
+    before: u64,
     costs: &mut [u32],
     work: &mut [u32],
     route: &mut [u8],
 ) -> Turn
-    ensures { λ r. ⌜ TurnTaken f (now (map .entry)) [] (take end (now (buffer .entry))) (rooms (now (costs .entry)) (now (work .entry)) (now (route .entry))) (r .kept) (now (buffer .exit)) (rooms (now (costs .exit)) (now (work .exit)) (now (route .exit))) ⌝ }
+    ensures { λ r. ⌜ TurnTaken f (now (map .entry)) [] (take end (now (buffer .entry))) before (rooms (now (costs .entry)) (now (work .entry)) (now (route .entry))) r (now (buffer .exit)) (rooms (now (costs .exit)) (now (work .exit)) (now (route .exit))) ⌝ }
 {
     let answered = answer_arrived(f, map, buffer, end, costs, work, route);
-    let more = io::write_all(STDOUT_FILENO, &buffer[0..answered]);
+    let sent = write_answers(&buffer[0..answered], before);
     let kept = keep_tail(buffer, answered, end);
-    Turn { kept, more }
+    Turn {
+        kept,
+        gone: sent.gone,
+        more: sent.all,
+    }
+}
+
+// The last turn, whose piece has no bytes. What was kept has no answer: the record is broken.
+fn end_turn(piece: Piece, kept: usize, gone: u64) -> Turn
+    ensures { λ r. ⌜ r ≡ record { kept = kept; gone = gone; more = false } ⌝ }
+{
+    match piece {
+        Piece::Failure => tell_failure(b"reading questions failed", gone),
+        _ => tell_broken(kept),
+    }
+    Turn {
+        kept,
+        gone,
+        more: false,
+    }
 }
 
 // Reads what has arrived, which may be little, and answers every whole record of it before more is asked for.
@@ -130,22 +133,22 @@ fn take_turn(
     map: &[u8],
     buffer: &mut [u8],
     kept: usize,
+    gone: u64,
     costs: &mut [u32],
     work: &mut [u32],
     route: &mut [u8],
 ) -> Turn
     requires { ⌜ (kept < recordSize) × (recordSize ≤ length (now buffer)) ⌝ }
-    ensures { λ r. ⌜ SomeTurn f (now (map .entry)) (take kept (now (buffer .entry))) (rooms (now (costs .entry)) (now (work .entry)) (now (route .entry))) r (now (buffer .exit)) (rooms (now (costs .exit)) (now (work .exit)) (now (route .exit))) ⌝ }
+    ensures { λ r. ⌜ SomeTurn f (now (map .entry)) (take kept (now (buffer .entry))) gone (rooms (now (costs .entry)) (now (work .entry)) (now (route .entry))) r (now (buffer .exit)) (rooms (now (costs .exit)) (now (work .exit)) (now (route .exit))) ⌝ }
 {
     let piece = read_piece(STDIN_FILENO, buffer, kept);
     let Piece::Bytes(arrived) = piece else {
-        return Turn { kept, more: false };
+        return end_turn(piece, kept, gone);
     };
-    answer_piece(f, map, buffer, kept + arrived, costs, work, route)
+    answer_piece(f, map, buffer, kept + arrived, gone, costs, work, route)
 }
 
-// What was written so far are the answers to the whole records among all bytes that have arrived so far. Gives the length of a broken last record,
-// which got no answer.
+// What was written so far are the answers to the whole records among all bytes that have arrived so far; a broken last record gets no answer.
 // A proved loop has to end, and nothing says that the input does: it counts down from a number that no run uses up.
 fn answer_all(
     f: Floor,
@@ -154,21 +157,27 @@ fn answer_all(
     costs: &mut [u32],
     work: &mut [u32],
     route: &mut [u8],
-) -> usize
+) -> Turn
     requires { ⌜ (recordSize ≤ length (now buffer)) × EnoughRoom (rooms (now costs) (now work) (now route)) ⌝ }
     ensures { λ r. ⌜ AllSoFar f (now (map .entry)) (rooms (now (costs .entry)) (now (work .entry)) (now (route .entry))) r (now (buffer .exit)) (rooms (now (costs .exit)) (now (work .exit)) (now (route .exit))) ⌝ }
 {
     let mut kept = 0;
+    let mut gone = 0;
     let mut turns = u64::MAX;
     while 0 < turns {
-        let turn = take_turn(f, map, buffer, kept, costs, work, route);
-        kept = turn.kept;
+        let turn = take_turn(f, map, buffer, kept, gone, costs, work, route);
         if !turn.more {
-            return kept;
+            return turn;
         }
+        kept = turn.kept;
+        gone = turn.gone;
         turns -= 1;
     }
-    kept
+    Turn {
+        kept,
+        gone,
+        more: true,
+    }
 }
 
 // The rooms are those of the greatest floor, made once; the buffer has 64 KiB, so that many records cost one call.
@@ -202,7 +211,7 @@ fn main() {
     let mut cells = [0u8; GREATEST_USED_CELLS];
     let text = read_file(&mut room);
     match text {
-        Text::Unread => print(b"map missing\n"),
+        Text::Unread => print_missing(),
         Text::Length(length) => use_text(&room[0..length], &mut cells),
     }
 }

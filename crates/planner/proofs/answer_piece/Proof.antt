@@ -1,4 +1,5 @@
 -- What `answer_arrived` and `keep_tail` promise makes a turn; the answers lie in the buffer.
+use native.Mathlib.Numerals.{unary-clauses}
 use borrow.Author.Needs.{needs}
 use Rattle.planner.proofs.Pieces.{arrived-within, piece-answered}
 use Rattle.planner.proofs.answer_piece.Statement.{statement}
@@ -7,17 +8,17 @@ use Rattle.planner.proofs.answer_piece.Tie as tie
 answer-arrived-requires : tie.Need-answer-arrived-requires
 answer-arrived-requires c κs = search needs
 
-sub-write-all : tie.Need-sub-write-all
-sub-write-all c = search needs
+sub-write-answers : tie.Need-sub-write-answers
+sub-write-answers c = search needs
 
-part-write-all-start : tie.Need-part-write-all-start
-part-write-all-start c = search needs
+part-write-answers-start : tie.Need-part-write-answers-start
+part-write-answers-start c = search needs
 
-part-write-all-end : tie.Need-part-write-all-end
-part-write-all-end c = arrived-within (c .before .before .before .before .before .before .before .before .before .answer-arrived .ensures)
+part-write-answers-end : tie.Need-part-write-answers-end
+part-write-answers-end c = arrived-within (c .before .before .before .before .before .before .before .before .before .answer-arrived .ensures)
 
-write-all-requires : tie.Need-write-all-requires
-write-all-requires c κs = search needs
+write-answers-requires : tie.Need-write-answers-requires
+write-answers-requires c κs = search needs
 
 keep-tail-requires : tie.Need-keep-tail-requires
 keep-tail-requires c κs = search needs
@@ -38,17 +39,17 @@ returns : tie.Need-returns
 returns c =
     let k = c .before .before in
     let a = k .before .before .before .before .before .before .before .before .before .before .before .before .before in
-    piece-answered (a .answer-arrived .ensures) (k .keep-tail .ensures)
+    piece-answered (a .answer-arrived .ensures) (k .keep-tail .ensures) (simp unary-clauses at (k .before .before .write-answers .ensures))
 
 pub answer-piece-spec : {M : Type 1} → statement M
 answer-piece-spec =
     tie.close
     (tie.spec
     answer-arrived-requires
-    sub-write-all
-    part-write-all-start
-    part-write-all-end
-    write-all-requires
+    sub-write-answers
+    part-write-answers-start
+    part-write-answers-end
+    write-answers-requires
     keep-tail-requires
     same-length
     same-length-2

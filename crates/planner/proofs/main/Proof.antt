@@ -1,7 +1,7 @@
 -- The text lies in the room that it was read into.
 use mathlib.Core.Path.{subst}
 use borrow.Author.Needs.{needs}
-use Rattle.planner.specs.Rooms.{TextIn}
+use Rattle.streams.specs.Streams.{TextIn}
 use Rattle.planner.proofs.main.Statement.{statement}
 use Rattle.planner.proofs.main.Tie as tie
 
@@ -14,11 +14,8 @@ read-file-requires c κs = search needs
 enum-told : tie.Need-enum-told
 enum-told c = search needs
 
-slice-aggregate-print : tie.Need-slice-aggregate-print
-slice-aggregate-print c = search needs
-
-print-requires : tie.Need-print-requires
-print-requires c κs = search needs
+print-missing-requires : tie.Need-print-missing-requires
+print-missing-requires c κs = search needs
 
 enum-known-text : tie.Need-enum-known-text
 enum-known-text c = search needs
@@ -53,8 +50,7 @@ main-spec =
     slice-aggregate-read-file
     read-file-requires
     enum-told
-    slice-aggregate-print
-    print-requires
+    print-missing-requires
     enum-known-text
     sub-use-text
     part-use-text-start

@@ -2,8 +2,8 @@
 use mathlib.Core.Path.{subst}
 use native.Mathlib.Omega.{arith}
 use borrow.Author.Needs.{needs}
-use Rattle.planner.specs.declared.Piece.the-variants.{Bytes}
-use Rattle.planner.specs.Rooms.{PieceIn}
+use Rattle.streams.specs.declared.Piece.the-variants.{Bytes}
+use Rattle.streams.specs.Streams.{PieceIn}
 use Rattle.planner.proofs.Pieces.{some-piece, no-bytes}
 use Rattle.planner.proofs.take_turn.Statement.{statement}
 use Rattle.planner.proofs.take_turn.Tie as tie
@@ -14,14 +14,17 @@ read-piece-requires c κs = search needs
 enum-known-piece : tie.Need-enum-known-piece
 enum-known-piece c = search needs
 
+end-turn-requires : tie.Need-end-turn-requires
+end-turn-requires c κs = search needs
+
 same-length : tie.Need-same-length
 same-length c = search needs
 
 returns : tie.Need-returns
 returns c =
-    let p = c .before .before .before in
+    let p = c .before .before .before .before in
     let s = p .before .before .before .before .before .before .before in
-    no-bytes (s .args .buffer .now) (s .args .kept) (p .read-piece .ensures .1) (s .pre .0)
+    rw (c .end-turn .ensures) (no-bytes (s .args .buffer .now) (s .args .kept) (s .args .gone) (p .read-piece .ensures .1) (s .pre .0) (omega (arith, s .fits .gone)))
 
 -- the piece has bytes, and they lie in the buffer
 brought : (c : tie.After-known-told) →
@@ -65,6 +68,7 @@ take-turn-spec =
     (tie.spec
     read-piece-requires
     enum-known-piece
+    end-turn-requires
     same-length
     returns
     add-answer-piece

@@ -4,11 +4,11 @@ use Prim.Native.Nat.{_-_, _≤_}
 use native.Mathlib.Omega.{arith}
 use borrow.Author.Needs.{needs}
 use lib.ListN.{length}
-use Rattle.planner.specs.declared.Piece.the-variants.{Bytes}
-use Rattle.planner.specs.Rooms.{PieceIn, TextIn}
-use Rattle.planner.proofs.Pieces.{text-in}
-use Rattle.planner.proofs.read_text.Statement.{statement}
-use Rattle.planner.proofs.read_text.Tie as tie
+use Rattle.streams.specs.declared.Piece.the-variants.{Bytes}
+use Rattle.streams.specs.Streams.{PieceIn, TextIn}
+use Rattle.streams.proofs.Pieces.{text-in}
+use Rattle.streams.proofs.read_text.Statement.{statement}
+use Rattle.streams.proofs.read_text.Tie as tie
 
 abbrev Inv-loop : tie.InvT-loop
 Inv-loop file room₀ have₀ room have = (have ≤ length room) × (length room ≡ length room₀)

@@ -1,7 +1,7 @@
 -- Each arm is the case of `textAtEnd` that the match has found.
 use borrow.Author.Needs.{needs}
-use Rattle.planner.proofs.text_at_end.Statement.{statement}
-use Rattle.planner.proofs.text_at_end.Tie as tie
+use Rattle.streams.proofs.text_at_end.Statement.{statement}
+use Rattle.streams.proofs.text_at_end.Tie as tie
 
 enum-told : tie.Need-enum-told
 enum-told c = search needs
