@@ -173,3 +173,22 @@ def add_calls(made):
             for spare in (turn % 4, -1):
                 due = lambda map, text, **_: write_into(width, height, map, text)
                 made.call(wire.WRITE_MAP, about, due, (width, height, turn), map=(width * height, ()), text=(length + spare, old))
+    add_refused_writings(made)
+
+
+def add_refused_writings(made):
+    """1, 2 and 3, alone and before the lines that come after them; 3 tells the first such cell."""
+    for width, height, cells, refused in (
+        (0, 1, [], (1, 0)),
+        (1, 0, [], (1, 0)),
+        (257, 1, [1] * 257, (1, 0)),
+        (1, 257, [10] * 3, (1, 0)),
+        (2, 3, [1] * 5, (2, 0)),
+        (2, 3, [1] * 7, (2, 0)),
+        (2, 2, [10] * 3, (2, 0)),
+        (2, 2, [1, 1, 10, 255], (3, 2)),
+        (2, 2, [255, 1, 1, 1], (3, 0)),
+    ):
+        for length in (70, 0):
+            about = "%d by %d, cells %s, a room of %d" % (width, height, cells[:8], length)
+            made.call(wire.WRITE_MAP, about, lambda **_: [0, *refused], (width, height, 8), map=(len(cells), cells), text=(length, wire.OLD_BYTE))

@@ -289,6 +289,20 @@ def answer_in_place(floor, costs, work, route, text):
     return [len(answered)]
 
 
+def answer_front(floor, end, costs, work, route, text):
+    """The same of the first `end` bytes."""
+    front = text[:end]
+    numbers = answer_in_place(floor, costs, work, route, front)
+    text[:end] = front
+    return numbers
+
+
+def kept(first, end, text):
+    tail = text[first:end]
+    text[: len(tail)] = tail
+    return [len(tail)]
+
+
 def add_case(made, turn, text, records, piece):
     """The map, and the questions if it can be used, on the cells and in the rooms as the calls before left them."""
     about = "text of %d bytes %r" % (len(text), text[:60])
@@ -306,7 +320,32 @@ def add_case(made, turn, text, records, piece):
         rooms = {name: (length, ()) for name, (length, _) in rooms.items()}
 
 
+TURNS = 60  # turns of the program, each with a buffer that has more bytes in it than have arrived
+
+
+def add_turns(made):
+    """The two functions of a turn, one after the other in one buffer: on case a's map, for any bytes that have arrived, and for ends that the buffer has
+    not got."""
+    generator = random.Random(47)
+    text = maptexts.text_of([".@.", "..."])
+    floor = width, height, cells = maptexts.read(text, ROOM)
+    rooms = {"costs": (9, wire.OLD_COST), "work": (15, wire.OLD_WORK), "route": (9, wire.OLD_BYTE)}
+    for turn in range(TURNS):
+        asked = [question(generator.randrange(7), generator.randrange(7), generator.randrange(8), generator.choice([4, 8, 8, 5])) for _ in range(3)]
+        length = generator.choice([0, 1, 15, 16, 17, 31, 32, 40, 48])
+        end = generator.choice([0, length // 2, max(length - 3, 0), length, length + 1, MARK])
+        buffer = b"".join(asked)[:length]
+        about = "turn %d: %d bytes of %d, %s" % (turn, end, length, buffer.hex(" "))
+        answered, = made.call(
+            wire.ANSWER_ARRIVED, about, lambda costs, work, route, text, **_: answer_front(floor, end, costs, work, route, text),
+            (width, height, 8), 0, 0, end, map=(len(cells), cells), text=(length, buffer), **rooms,
+        )
+        for first in sorted({answered, generator.choice([0, 5, length, length + 1, MARK])}):
+            made.call(wire.KEEP_TAIL, about + ", from %d" % first, lambda text, first=first, **_: kept(first, end, text), (0, 0, 0), first, end, text=(length, ()))
+
+
 def add_calls(made):
     cases = [*cases_of_01(), *maps(), *questions_refused(), *in_pieces(), *asked_floors()]
     for turn, case in enumerate(cases):
         add_case(made, turn, *case)
+    add_turns(made)

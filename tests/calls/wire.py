@@ -6,10 +6,13 @@ import struct
 import zlib
 from collections import Counter
 
-SEARCH, CHECK_ROUTE, CHECK_TABLE, READ_MAP, WRITE_MAP, JUDGE_MAP, C_CHECK_ROUTE, USE_MAP, ANSWER_RECORDS = range(1, 10)
+(
+    SEARCH, CHECK_ROUTE, CHECK_TABLE, READ_MAP, WRITE_MAP, JUDGE_MAP, C_CHECK_ROUTE, USE_MAP, ANSWER_RECORDS, ANSWER_ARRIVED, KEEP_TAIL,
+) = range(1, 12)
 ENTRIES = {
-    SEARCH: "fradnumber_search", CHECK_ROUTE: "check_route", CHECK_TABLE: "check_table", READ_MAP: "read_map", WRITE_MAP: "write_map", JUDGE_MAP: "judge_map",
-    C_CHECK_ROUTE: "fradnumber_check_route", USE_MAP: "use_map", ANSWER_RECORDS: "answer_records",
+    SEARCH: "fradnumber_search", CHECK_ROUTE: "check_route", CHECK_TABLE: "fradnumber_check_table", READ_MAP: "fradnumber_read_map",
+    WRITE_MAP: "fradnumber_write_map", JUDGE_MAP: "fradnumber_judge_map", C_CHECK_ROUTE: "fradnumber_check_route", USE_MAP: "use_map",
+    ANSWER_RECORDS: "answer_records", ANSWER_ARRIVED: "answer_arrived", KEEP_TAIL: "keep_tail",
 }
 READING, SEARCHING = ("refused", "read"), ("refused", "found", "none", "stopped")
 # What the first number of a reply says, where it is a kind; the second is then the refusal or the fault.

@@ -13,13 +13,17 @@
 //   what                       the six numbers
 //    1 fradnumber_search       kind (0 refused, 1 found, 2 none, 3 stopped), refusal, place, settled, number returned, route length
 //    2 check_route             kind (0 refused, 1 holds, 2 fault), refusal or fault, place, cost
-//    3 check_table             kind (0 refused, 1 right, 2 breaks), refusal, place or cell
-//    4 read_map                kind (0 refused, 1 read), refusal, place, width, height, ways
-//    5 write_map               kind (0 refused, 1 written), refusal, place, length
-//    6 judge_map               as read_map; the cell room's length is that of the map room
+//    3 fradnumber_check_table  kind (0 refused, 1 right, 2 breaks), refusal, place or cell
+//    4 fradnumber_read_map     kind (0 refused, 1 read), refusal, place, width, height, ways
+//    5 fradnumber_write_map    kind (0 refused, 1 written), refusal, place, length
+//    6 fradnumber_judge_map    as the reader; the cell room's length is that of the map room
 //    7 fradnumber_check_route  low half and high half of what C gets
-//    8 use_map                 as read_map
+//    8 use_map                 as the reader
 //    9 answer_records          how many bytes are answers; the records are in the text room
+//   10 answer_arrived          as answer_records; so many bytes have arrived as the limit says
+//   11 keep_tail               how many bytes of the text room are kept: those from the start's number up to the goal's
+//
+// A call from C hands on what the entry of its library answers, so that it stands here for both.
 //
 // Each reply is written before the next call is read. An unknown `what`, a room longer than the program's, more given than a room's length, and an input that
 // ends inside a call end the program.
@@ -27,19 +31,21 @@ mod wire; // wire.rt: numbers in bytes, rooms, replies
 
 ghost use Prim.Native.Nat.{_≤_};
 use claims::RouteVerdict;
-use claims::TableVerdict;
 use claims::routes::check_route;
 use claims::routes::fradnumber_check_route;
-use claims::tables::check_table;
+use claims::tables::fradnumber_check_table;
+use desk::answer_arrived;
 use desk::answer_records;
+use desk::keep_tail;
 use desk::use_map;
 use floor::Floor;
 use libc::STDOUT_FILENO;
 use maptext::Read;
-use maptext::Written;
-use maptext::judge_map;
-use maptext::read_map;
-use maptext::write_map;
+use maptext::ReadNumbers;
+use maptext::WrittenNumbers;
+use maptext::fradnumber_judge_map;
+use maptext::fradnumber_read_map;
+use maptext::fradnumber_write_map;
 use search::AnswerNumbers;
 use search::rooms::fradnumber_search;
 use wire::adler;
@@ -140,15 +146,46 @@ fn of_route(verdict: RouteVerdict) -> [u32; 6] {
     }
 }
 
-fn of_table(verdict: TableVerdict) -> [u32; 6] {
-    match verdict {
-        TableVerdict::Refused(number, place) => [0, number, short(place as u64), 0, 0, 0],
-        TableVerdict::Right => [1, 0, 0, 0, 0, 0],
-        TableVerdict::Breaks(cell) => [2, 0, short(cell as u64), 0, 0, 0],
+// 40 stands in place of a refusal where a table breaks the rule.
+fn of_table(n: u64) -> [u32; 6] {
+    let number = short(n / 4294967296);
+    let place = short(n % 4294967296);
+    if number == 0 {
+        return [1, 0, 0, 0, 0, 0];
     }
+    if number == 40 {
+        return [2, 0, place, 0, 0, 0];
+    }
+    [0, number, place, 0, 0, 0]
 }
 
-fn of_read(read: Read) -> [u32; 6] {
+fn kind_of(refusal: u64) -> u32 {
+    if refusal == 0 { 1 } else { 0 }
+}
+
+fn of_read(n: ReadNumbers) -> [u32; 6] {
+    [
+        kind_of(n.refusal),
+        short(n.refusal),
+        short(n.place),
+        short(n.width),
+        short(n.height),
+        short(n.ways),
+    ]
+}
+
+fn of_written(n: WrittenNumbers) -> [u32; 6] {
+    [
+        kind_of(n.refusal),
+        short(n.refusal),
+        short(n.place),
+        short(n.length),
+        0,
+        0,
+    ]
+}
+
+fn of_used(read: Read) -> [u32; 6] {
     match read {
         Read::Refused(number, place) => [0, number, short(place as u64), 0, 0, 0],
         Read::Map(f) => [
@@ -159,13 +196,6 @@ fn of_read(read: Read) -> [u32; 6] {
             short(f.height as u64),
             short(f.ways as u64),
         ],
-    }
-}
-
-fn of_written(written: Written) -> [u32; 6] {
-    match written {
-        Written::Refused(number, place) => [0, number, short(place as u64), 0, 0, 0],
-        Written::Length(length) => [1, 0, 0, short(length as u64), 0, 0],
     }
 }
 
@@ -218,13 +248,15 @@ fn ask(
     match what {
         1 => of_six(fradnumber_search(w, h, ways, map, start, goal, limit, costs, work, route)),
         2 => of_route(check_route(floor, map, start, goal, limit, route)),
-        3 => of_table(check_table(floor, map, start, costs)),
-        4 => of_read(read_map(text, map)),
-        5 => of_written(write_map(floor, map, text)),
-        6 => of_read(judge_map(text, map.len())),
+        3 => of_table(fradnumber_check_table(w, h, ways, map, start, costs)),
+        4 => of_read(fradnumber_read_map(text, map)),
+        5 => of_written(fradnumber_write_map(w, h, map, text)),
+        6 => of_read(fradnumber_judge_map(text, map.len())),
         7 => of_halves(fradnumber_check_route(w, h, ways, map, start, goal, limit, route)),
-        8 => of_read(use_map(text, map)),
+        8 => of_used(use_map(text, map)),
         9 => of_halves(answer_records(floor, map, text, costs, work, route) as u64),
+        10 => of_halves(answer_arrived(floor, map, text, long(limit), costs, work, route) as u64),
+        11 => of_halves(keep_tail(text, long(start), long(goal)) as u64),
         _ => [NO_ENTRY, 0, 0, 0, 0, 0],
     }
 }
