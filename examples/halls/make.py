@@ -12,7 +12,7 @@ HERE = Path(__file__).resolve().parent
 sys.path.insert(0, str(HERE.parents[1] / "tools"))
 sys.dont_write_bytecode = True
 
-from asking.programs import LARGEST, question, record_of, run_planner  # noqa: E402
+from asking.programs import LARGEST, Planner, question, record_of  # noqa: E402
 
 ALL = 4096
 
@@ -194,6 +194,11 @@ HALLS = (
 )
 
 
+def answers(text, records):
+    with Planner(text) as planner:
+        return planner.answers(records)
+
+
 def main():
     folder = Path(sys.argv[1]) if len(sys.argv) > 1 else HERE
     for name, hall, questions in HALLS:
@@ -201,11 +206,11 @@ def main():
         text, records = text_of(rows), b"".join(questions(rows))
         (folder / f"{name}.map").write_bytes(text)
         (folder / f"{name}.questions").write_bytes(records)
-        (folder / f"{name}.answers").write_bytes(run_planner(text, records))
+        (folder / f"{name}.answers").write_bytes(answers(text, records))
         if name == "row":
             # a log as of a planner that drops the smallest surcharge: to it the row is level floor
             dropped = text_of([[1 if weight == 2 else weight for weight in line] for line in rows])
-            (folder / "row.old.answers").write_bytes(run_planner(dropped, records))
+            (folder / "row.old.answers").write_bytes(answers(dropped, records))
         print(f"{name}: {len(records) // 16} questions")
 
 

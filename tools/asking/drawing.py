@@ -1,5 +1,7 @@
-"""The picture as an SVG file. Each cell says its number, place, weight and cost when pointed at."""
+"""The picture as an SVG file. Each cell says its number, place, weight and cost when pointed at. Nothing hides a weight: digits lie on top."""
 from xml.sax.saxutils import escape
+
+from asking.terminal import fault_name
 
 LEAST_SIZE, GREATEST_SIZE, WHOLE = 15, 56, 960
 LEFT, TOP = 34, 18
@@ -12,7 +14,8 @@ FLOOR = {
 }
 # From pale to deep, by cost.
 NEAR, FAR = (168, 205, 236), (18, 62, 130)
-ROUTE, START, GOAL, INK = "#1f7a3a", "#1d4ed8", "#7e22ce", "#4a3b22"
+ROUTE, START, GOAL, WRONG, INK = "#1f7a3a", "#1d4ed8", "#7e22ce", "#c81e1e", "#4a3b22"
+ENDS = {"S": START, "G": GOAL, "!": WRONG}
 # Letters in the middle of a height; not every viewer knows baselines.
 MIDDLE = 'dy=".35em"'
 
@@ -21,6 +24,7 @@ STYLE = (
     ".cell{stroke:#d8d4c8;stroke-width:.5}"
     ".weight{fill:" + INK + ";text-anchor:middle;pointer-events:none}"
     ".light{fill:#fff}"
+    ".halo{fill:#fff;stroke:#fff;stroke-width:3;stroke-linejoin:round}"
     ".settled{pointer-events:none}"
     ".end{fill:#fff;font-weight:bold;text-anchor:middle;pointer-events:none}"
     ".scale{fill:#777;font-size:10px}"
@@ -43,6 +47,8 @@ class Drawing:
         self.size = size_of(view.floor)
         self.top = TOP + LINE * len(headline) + 12
         self.parts = []
+        # the cells that the route's line lies on
+        self.crossed = set(view.route_cells)
 
     def add(self, part):
         self.parts.append(part)
@@ -67,26 +73,40 @@ class Drawing:
     def add_settled(self, cell):
         x, y = self.centre(cell.number)
         part = cell.cost / self.view.dearest if self.view.dearest else 0
-        # on warm floor the dot stands aside, so that the weight can be read
-        radius = self.size * (0.27 if cell.weight == 1 else 0.15)
+        radius = self.size * 0.27
         if cell.weight > 1:
-            x, y = x - self.size * 0.28, y - self.size * 0.28
+            # on warm floor the dot stands aside, in the corner that the digit leaves free
+            radius = self.size * 0.12
+            x, y = x - self.size * 0.34, y - self.size * 0.34
         self.add(f'<circle class="settled" cx="{x:g}" cy="{y:g}" r="{radius:.2f}" fill="{shade(part)}"/>')
 
     def add_weight(self, cell):
+        """The digit; where a line or a letter lies under it, with a pale edge and in the corner."""
         x, y = self.centre(cell.number)
-        light = " light" if cell.weight >= 8 else ""
-        self.add(f'<text class="weight{light}" x="{x:g}" y="{y:g}" {MIDDLE} font-size="{self.size * 0.55:.1f}">{cell.weight}</text>')
+        aside = self.size * (0.26 if cell.mark in ("start", "goal", "both", "fault") else 0.1)
+        height = self.size * 0.5
+        place = f'x="{x + aside:g}" y="{y + aside:g}" {MIDDLE} font-size="{height:.1f}"'
+        crossed = cell.mark is not None or cell.number in self.crossed
+        if crossed:
+            self.add(f'<text class="weight halo" {place}>{cell.weight}</text>')
+        light = " light" if cell.weight >= 8 and not crossed else ""
+        self.add(f'<text class="weight{light}" {place}>{cell.weight}</text>')
 
     def add_floor(self):
-        cells = [cell for row in self.view.rows() for cell in row]
+        cells = self.cells()
         for cell in cells:
             self.add_cell(cell)
         for cell in cells:
             if cell.cost is not None:
                 self.add_settled(cell)
+
+    def add_weights(self):
+        for cell in self.cells():
             if cell.weight > 1:
                 self.add_weight(cell)
+
+    def cells(self):
+        return [cell for row in self.view.rows() for cell in row]
 
     def add_scale(self):
         floor, size = self.view.floor, self.size
@@ -112,11 +132,16 @@ class Drawing:
         self.add(f'<text class="end" x="{x:g}" y="{y:g}" {MIDDLE} font-size="{radius * 1.3:.1f}">{letter}</text>')
 
     def add_ends(self):
-        view, cells = self.view, self.view.floor.width * self.view.floor.height
+        """The ends side by side where they are one cell."""
+        view, marks = self.view, self.view.marks()
         radius = min(max(self.size * 0.45, 8), 14)
-        for number, letter, colour in ((view.goal, "G", GOAL), (view.start, "S", START)):
-            if number < cells:
-                self.add_end(*self.centre(number), radius, letter, colour)
+        if "both" in marks:
+            x, y = self.centre(view.start)
+            self.add_end(x + radius * 0.6, y, radius * 0.7, "G", GOAL)
+            self.add_end(x - radius * 0.6, y, radius * 0.7, "S", START)
+        for mark, number, letter in (("goal", view.goal, "G"), ("start", view.start, "S"), ("fault", view.fault, "!")):
+            if mark in marks:
+                self.add_end(*self.centre(number), radius, letter, ENDS[letter])
 
     def add_headline(self):
         for place, line in enumerate(self.headline):
@@ -128,34 +153,38 @@ class Drawing:
         self.add(f'<text x="{x + 20}" y="{y}" font-size="12">{escape(words)}</text>')
 
     def add_floor_key(self, y):
-        keys = [(FLOOR[1], "weight 1")]
-        keys += [(FLOOR[weight], str(weight)) for weight in self.view.weights()]
-        if self.view.has_blocked():
+        weights = ([1] if self.view.has(1) else []) + self.view.weights()
+        keys = [(FLOOR[weight], str(weight) if place else f"weight {weight}") for place, weight in enumerate(weights)]
+        if self.view.has(0):
             keys.append((FLOOR[0], "blocked"))
         x = LEFT
         for colour, words in keys:
             self.swatch(x, y, colour, words)
             x += 34 + 8 * len(words)
 
-    def add_ends_key(self, y):
-        self.add_end(LEFT + 7, y - 4, 8, "S", START)
-        self.add(f'<text x="{LEFT + 20}" y="{y}" font-size="12">start</text>')
-        self.add_end(LEFT + 77, y - 4, 8, "G", GOAL)
-        self.add(f'<text x="{LEFT + 90}" y="{y}" font-size="12">goal</text>')
+    def add_marks_key(self, y):
+        marks, x = self.view.marks(), LEFT
+        letters = [letter for letter, mark in (("S", "start"), ("G", "goal"), ("!", "fault")) if mark in marks or (mark != "fault" and "both" in marks)]
+        for letter in letters:
+            words = {"S": "start", "G": "goal", "!": fault_name(self.view)}[letter]
+            self.add_end(x + 7, y - 4, 8, letter, ENDS[letter])
+            self.add(f'<text x="{x + 20}" y="{y}" font-size="12">{words}</text>')
+            x += 34 + 7 * len(words)
         if self.view.route_cells:
-            self.add(f'<line x1="{LEFT + 136}" y1="{y - 4}" x2="{LEFT + 164}" y2="{y - 4}" stroke="{ROUTE}" stroke-width="4"/>')
-            self.add(f'<text x="{LEFT + 172}" y="{y}" font-size="12">route</text>')
+            self.add(f'<line x1="{x}" y1="{y - 4}" x2="{x + 28}" y2="{y - 4}" stroke="{ROUTE}" stroke-width="4"/>')
+            self.add(f'<text x="{x + 36}" y="{y}" font-size="12">route</text>')
 
     def add_settled_key(self, y):
-        for place in range(5):
+        shades = 5 if self.view.dearest else 1
+        for place in range(shades):
             self.add(f'<circle class="key" cx="{LEFT + 7 + 16 * place}" cy="{y - 4}" r="6" fill="{shade(place / 4)}"/>')
-        words = f"settled, from cost 0 to cost {self.view.dearest}"
-        self.add(f'<text x="{LEFT + 92}" y="{y}" font-size="12">{words}</text>')
+        words = f"settled, from cost 0 to cost {self.view.dearest}" if self.view.dearest else "settled, at cost 0"
+        self.add(f'<text x="{LEFT + 12 + 16 * shades}" y="{y}" font-size="12">{words}</text>')
 
     def add_key(self):
         y = self.top + self.view.floor.height * self.size + 28
         self.add_floor_key(y)
-        self.add_ends_key(y + 24)
+        self.add_marks_key(y + 24)
         if self.view.settled:
             self.add_settled_key(y + 48)
 
@@ -168,6 +197,7 @@ class Drawing:
         self.add_scale()
         self.add_route()
         self.add_ends()
+        self.add_weights()
         self.add_key()
         head = f'<svg xmlns="http://www.w3.org/2000/svg" width="{width}" height="{height}" viewBox="0 0 {width} {height}">'
         title = f"<title>{escape(self.headline[0])}</title><style>{STYLE}</style>"

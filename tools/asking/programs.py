@@ -1,26 +1,34 @@
-"""The proved programs as the front end uses them: `planner` answers records, `calls` gives cells, costs and routes.
+"""The proved programs as the front end uses them: `planner` answers records, `calls` gives what the libraries answer.
 
-Nothing is planned here. The layouts are those of the customer's paper ("The program") and of crates/calls/src/main.rt.
+Nothing is planned here. The layouts are those of docs/MANUAL.md ("Records") and of crates/calls/src/main.rt.
 """
-import re
+import os
+import stat
 import struct
 import subprocess
 import tempfile
 from collections import namedtuple
 from pathlib import Path
 
+from asking.names import visible
+
 ROOT = Path(__file__).resolve().parents[2]
 START = ROOT / "tools" / "start"
 
 MARK = 4294967295
 LARGEST = 4294967295
-MOST_SIDE = 64
+# the library's greatest floor, and a text longer than any map of it
+MOST_SIDE = 256
 MOST_CELLS = MOST_SIDE * MOST_SIDE
-MOST_TEXT = 4195
+MOST_TEXT = 66000
+# the program's
+PROGRAM_SIDE = 64
+PROGRAM_TEXT = 4195
 
 REFUSED, FOUND, NONE, STOPPED = range(4)
-SEARCH, ROUTE_CLAIM, READ_MAP = 1, 2, 4
-HOLDS = 1  # the kind of a route claim's answer
+HOLDS, FAULT = 1, 2  # kinds of a route claim's answer, beside REFUSED
+RIGHT = 1  # of a table claim's
+SEARCH, ROUTE_CLAIM, TABLE_CLAIM, READ_MAP, ANSWER_RECORDS = 1, 2, 3, 4, 9
 
 # The eight directions: name, dx, dy.
 DIRECTIONS = (("N", 0, -1), ("NE", 1, -1), ("E", 1, 0), ("SE", 1, 1), ("S", 0, 1), ("SW", -1, 1), ("W", -1, 0), ("NW", -1, -1))
@@ -30,6 +38,8 @@ QUESTION_LAYOUT = struct.Struct("<IIIB3s")
 ANSWER_LAYOUT = struct.Struct("<BB2sIII")
 HEAD_LAYOUT = struct.Struct("<18I")
 NUMBERS_LAYOUT = struct.Struct("<6I")
+# So many records are asked at a time: their answers fit a pipe, so that neither side waits for the other.
+AT_A_TIME = 1024
 
 Floor = namedtuple("Floor", "width height cells")
 Question = namedtuple("Question", "start goal limit ways zeros")
@@ -37,6 +47,8 @@ Answer = namedtuple("Answer", "kind refusal zeros settled number length")
 MapRefusal = namedtuple("MapRefusal", "number place")
 # What a search leaves: the costs of all cells, MARK where not settled, and the directions of the route.
 Rooms = namedtuple("Rooms", "costs route")
+# What the check says of a claimed route: kind, refusal or fault, its place, the cost if it holds.
+Verdict = namedtuple("Verdict", "kind number place cost")
 
 
 class Trouble(Exception):
@@ -64,87 +76,133 @@ def answer_of(record):
     return Answer(*ANSWER_LAYOUT.unpack(record))
 
 
-def read_file(path, what, most=None):
+def open_file(path, what, plain=False):
+    """A file to read bytes from; one that is to be a plain file is no folder, pipe or device."""
     try:
-        with open(path, "rb") as file:
-            return file.read() if most is None else file.read(most)
-    except OSError as error:
-        raise Trouble(f"{what} {path} cannot be read: {error.strerror}") from None
+        file = open(path, "rb")
+        if plain and not stat.S_ISREG(os.fstat(file.fileno()).st_mode):
+            file.close()
+            raise Trouble(f"{what} {visible(path)} is no plain file")
+        return file
+    except (OSError, ValueError) as error:
+        raise Trouble(f"{what} {visible(path)} cannot be opened: {getattr(error, 'strerror', None) or error}") from None
 
 
 def read_text(path):
-    """The map's text; of one that is too long only so much that the program sees that too."""
-    return read_file(path, "the map", MOST_TEXT + 1)
-
-
-def run_planner(text, questions):
-    """What the planner answers to question records on this map: answer records, or why the map cannot be used. A broken last record is not handed on."""
-    questions = b"".join(whole_records(questions))
-    with tempfile.TemporaryDirectory() as folder:
-        Path(folder, "floor.map").write_bytes(text)
+    """The map's text; of one that is too long only so much that the reader sees that too."""
+    with open_file(path, "the map") as file:
         try:
-            run = subprocess.run([str(START), "planner"], input=questions, stdout=subprocess.PIPE, cwd=folder, check=False)
+            return file.read(MOST_TEXT)
         except OSError as error:
-            raise Trouble(f"tools/start cannot be started: {error.strerror}") from None
-    if run.returncode == 1:
-        raise Trouble("the program planner could not read or write all; the line above says how far it came")
-    if run.returncode != 0:
-        raise Trouble(f"the program planner ended with status {run.returncode}; 'rt check planner' builds it")
-    refused = re.fullmatch(rb"map refused (\d+) at (\d+)\n", run.stdout)
-    if refused:
-        return MapRefusal(int(refused[1]), int(refused[2]))
-    if len(run.stdout) != len(questions):
-        raise Trouble("the program planner did not answer every question; 'rt check planner' builds it anew")
-    return run.stdout
+            raise Trouble(f"the map {visible(path)} cannot be read: {error.strerror}") from None
+
+
+def is_for_program(floor, text):
+    """Whether the program takes the map too."""
+    return max(floor.width, floor.height) <= PROGRAM_SIDE and len(text) <= PROGRAM_TEXT
+
+
+def started(program, **more):
+    try:
+        return subprocess.Popen([str(START), program], stdin=subprocess.PIPE, stdout=subprocess.PIPE, **more)
+    except OSError as error:
+        raise Trouble(f"tools/start cannot be started: {error.strerror}") from None
+
+
+def ended(process):
+    """Closes the pipes of a program and gives its status."""
+    try:
+        process.stdin.close()
+    except BrokenPipeError:
+        pass  # it has ended already; its status tells
+    process.stdout.close()
+    return process.wait()
+
+
+def exchange(process, sent, due):
+    """Sends bytes to a program and gives as many bytes as are due, or fewer if it has ended."""
+    try:
+        process.stdin.write(sent)
+        process.stdin.flush()
+    except BrokenPipeError:
+        pass  # the missing answer tells
+    return process.stdout.read(due)
+
+
+class Planner:
+    """The program `planner` on one map, kept running: it answers each record as soon as it has come."""
+
+    def __init__(self, text):
+        self.text = text
+
+    def __enter__(self):
+        self.folder = tempfile.TemporaryDirectory()
+        try:
+            Path(self.folder.name, "floor.map").write_bytes(self.text)
+            self.process = started("planner", cwd=self.folder.name)
+        except BaseException:
+            self.folder.cleanup()
+            raise
+        return self
+
+    def __exit__(self, kind, *_):
+        status = ended(self.process)
+        self.folder.cleanup()
+        if kind is None and status != 0:
+            raise Trouble(self.failure(status))
+
+    def failure(self, status):
+        if status == 1:
+            return "the program planner could not read or write all; the line above says how far it came"
+        return f"the program planner ended with status {status}; 'rt check planner' builds it"
+
+    def answers(self, records):
+        """The answers to whole records, at most AT_A_TIME."""
+        answered = exchange(self.process, records, len(records))
+        if answered.startswith(b"map "):
+            raise Trouble("planner refuses a map that calls takes, so they are not of one build: run 'rt check planner calls'")
+        if len(answered) != len(records):
+            status = ended(self.process)
+            raise Trouble(self.failure(status) if status else "the program planner did not answer every question; 'rt check planner' builds it anew")
+        return answered
 
 
 class Calls:
     """The program `calls`, kept running for several calls."""
 
     def __enter__(self):
-        try:
-            self.process = subprocess.Popen([str(START), "calls"], stdin=subprocess.PIPE, stdout=subprocess.PIPE)
-        except OSError as error:
-            raise Trouble(f"tools/start cannot be started: {error.strerror}") from None
+        self.process = started("calls")
         return self
 
     def __exit__(self, *_):
-        try:
-            self.process.stdin.close()
-        except BrokenPipeError:
-            pass  # it has ended already, and whoever was waiting for its reply has said so
-        self.process.stdout.close()
-        self.process.wait()
+        ended(self.process)
 
-    def call(self, what, cells, floor=(0, 0, 0), start=0, goal=0, limit=0, costs=0, work=0, route=(0, b""), text=(0, b"")):
+    def call(self, what, cells, floor=(0, 0, 0), start=0, goal=0, limit=0, costs=(0, b""), work=0, route=(0, b""), text=(0, b"")):
         """The six numbers of the reply and its rooms, as they were left: map, costs, work, route, text. A room is its length and the bytes given; of the
-        costs and the work room nothing is given."""
-        head = (what, 0, *floor, start, goal, limit, cells[0], len(cells[1]), costs, 0, work, 0, route[0], len(route[1]), text[0], len(text[1]))
-        try:
-            self.process.stdin.write(HEAD_LAYOUT.pack(*head) + cells[1] + route[1] + text[1])
-            self.process.stdin.flush()
-        except BrokenPipeError:
-            pass  # the missing reply tells
-        lengths = (NUMBERS_LAYOUT.size, cells[0], 4 * costs, 4 * work, route[0], text[0])
-        parts = [self.process.stdout.read(length) for length in lengths]
-        if tuple(len(part) for part in parts) != lengths:
+        work room nothing is given."""
+        head = (what, 0, *floor, start, goal, limit, cells[0], len(cells[1]), costs[0], len(costs[1]) // 4, work, 0)
+        sent = HEAD_LAYOUT.pack(*head, route[0], len(route[1]), text[0], len(text[1])) + cells[1] + costs[1] + route[1] + text[1]
+        lengths = (NUMBERS_LAYOUT.size, cells[0], 4 * costs[0], 4 * work, route[0], text[0])
+        reply = exchange(self.process, sent, sum(lengths))
+        if len(reply) != sum(lengths):
             raise Trouble("the program calls gave no whole reply; 'rt check calls' builds it")
+        parts, at = [], 0
+        for length in lengths:
+            parts.append(reply[at : at + length])
+            at += length
         return NUMBERS_LAYOUT.unpack(parts[0]), parts[1:]
 
     def read_map(self, text):
-        """The floor of a map's text, or None if the reader refuses it; the planner says why."""
-        text = text[: MOST_TEXT + 1]
-        (kind, _, _, width, height, _), (cells, *_) = self.call(READ_MAP, (MOST_CELLS, b""), text=(len(text), text))
-        if kind == REFUSED:
-            return None
-        return Floor(width, height, cells[: width * height])
+        """The floor of a map's text, or its refusal."""
+        (kind, number, place, width, height, _), (cells, *_) = self.call(READ_MAP, (MOST_CELLS, b""), text=(len(text), text))
+        return MapRefusal(number, place) if kind == REFUSED else Floor(width, height, cells[: width * height])
 
     def search(self, floor, asked):
         """The answer to a question, as the planner would give it, and the rooms afterwards."""
         size = floor.width * floor.height
         shape = (floor.width, floor.height, asked.ways)
         numbers, (_, costs, _, route, _) = self.call(
-            SEARCH, (size, floor.cells), shape, asked.start, asked.goal, asked.limit, costs=size, work=2 * size, route=(size, b"")
+            SEARCH, (size, floor.cells), shape, asked.start, asked.goal, asked.limit, costs=(size, b""), work=2 * size, route=(size, b"")
         )
         kind, refusal, _, settled, number, length = numbers
         answer = Answer(kind, refusal, b"\0\0", settled, number, length)
@@ -152,12 +210,32 @@ class Calls:
             return answer, None
         return answer, Rooms(struct.unpack(f"<{size}I", costs), route[:length])
 
-    def route_holds(self, floor, asked, cost, route):
-        """Whether the check of claimed routes, which does not know the search, takes the route at this cost."""
+    def check_route(self, floor, asked, cost, route):
+        """What the check of claimed routes, which does not know the search, says of a route at this cost."""
         size = floor.width * floor.height
         shape = (floor.width, floor.height, asked.ways)
-        (kind, _, _, held, _, _), _ = self.call(ROUTE_CLAIM, (size, floor.cells), shape, asked.start, asked.goal, cost, route=(len(route), route))
-        return kind == HOLDS and held == cost
+        (kind, number, place, held, _, _), _ = self.call(
+            ROUTE_CLAIM, (size, floor.cells), shape, asked.start, asked.goal, cost, route=(len(route), route)
+        )
+        return Verdict(kind, number, place, held)
+
+    def table_is_right(self, floor, ways, start, costs):
+        """Whether the check of cost tables takes these as the least costs from the start."""
+        size = floor.width * floor.height
+        given = struct.pack(f"<{size}I", *costs)
+        numbers, _ = self.call(TABLE_CLAIM, (size, floor.cells), (floor.width, floor.height, ways), start, costs=(size, given))
+        return numbers[0] == RIGHT
+
+    def answers(self, floor, records):
+        """The answers to whole records, at most AT_A_TIME, as the library of the program's decisions gives them."""
+        size = floor.width * floor.height
+        numbers, (_, _, _, _, text) = self.call(
+            ANSWER_RECORDS, (size, floor.cells), (floor.width, floor.height, 8),
+            costs=(size, b""), work=2 * size, route=(size, b""), text=(len(records), records),
+        )
+        if numbers[0] != len(records):
+            raise Trouble("the program calls did not answer every question; 'rt check calls' builds it anew")
+        return text
 
 
 def cells_of(floor, start, route):

@@ -1,9 +1,14 @@
-"""The picture in the terminal. Every mark is a character, so that it is readable without colour; colour comes on top."""
+"""The picture in the terminal. A cell has a mark and a weight, each with a place of its own, so that neither hides the other. Every mark is a character, so
+that it is readable without colour; colour comes on top."""
 from collections import namedtuple
 
 Marks = namedtuple("Marks", "arrows dots blocked root corners across down")
 UNICODE = Marks("↑↗→↘↓↙←↖", "·•●", "█", "√2", "┌┐└┘", "─", "│")
 PLAIN = Marks("^/>\\v/<\\", "-=%", "#", " sqrt(2)", "++++", "-", "|")
+LETTERS = {"fault": "!", "both": "B", "start": "S", "goal": "G"}
+
+# Where a mark stands there is no dot.
+SETTLED_TOO = {"both": "start and goal", "start": "the start", "goal": "the goal", "route": "the cells of the route"}
 
 MARGIN = 4
 
@@ -12,8 +17,7 @@ FLOOR = {1: 255, 2: 230, 3: 229, 4: 222, 5: 221, 6: 215, 7: 209, 8: 203, 9: 196}
 BLOCKED = (240, 240)
 INK, LIGHT_INK = 52, 231
 DOTS = (75, 32, 19)
-ROUTE = (231, 28)
-ENDS = {"start": (231, 20), "goal": (231, 90), "both": (231, 90)}
+MARKED = {"fault": (231, 160), "both": (231, 90), "start": (231, 20), "goal": (231, 90), "route": (231, 28)}
 
 
 def marks_for(stream):
@@ -25,12 +29,10 @@ def marks_for(stream):
         return PLAIN
 
 
-def first_mark(view, cell, marks):
-    """What has the first say on a cell, or a blank."""
-    if cell.mark == "both" or cell.mark == "start":
-        return "S"
-    if cell.mark == "goal":
-        return "G"
+def mark_of(view, cell, marks):
+    """The character of the cell's mark, or a blank."""
+    if cell.mark in LETTERS:
+        return LETTERS[cell.mark]
     if cell.mark == "route":
         return marks.arrows[cell.direction]
     if cell.cost is not None:
@@ -38,52 +40,67 @@ def first_mark(view, cell, marks):
     return " "
 
 
-def characters(view, cell, marks, wide):
-    """A cell is two characters, mark and weight, or the weightier of the two where the floor is too wide for that."""
-    if cell.weight == 0:
-        one = marks.blocked if cell.mark is None else first_mark(view, cell, marks)
-        return (one + marks.blocked) if wide else one
-    weight = str(cell.weight) if cell.weight > 1 else " "
-    if wide:
-        return "SG" if cell.mark == "both" else first_mark(view, cell, marks) + weight
-    if cell.mark is None and cell.weight > 1:
-        return weight
-    return first_mark(view, cell, marks)
+def weight_of(cell, marks):
+    """The character of the cell's weight; a blank is weight 1."""
+    return marks.blocked if cell.weight == 0 else " " if cell.weight == 1 else str(cell.weight)
 
 
 def weight_colours(weight):
+    if weight == 0:
+        return BLOCKED
     return (LIGHT_INK if weight >= 8 else INK), FLOOR[weight]
 
 
-def colours(view, cell, character):
-    """Ink and background of a character of a cell."""
-    if cell.mark in ENDS:
-        return ENDS[cell.mark]
-    if cell.weight == 0:
-        return BLOCKED
-    if cell.mark == "route":
-        return ROUTE
-    if cell.cost is None or character.isdigit():
-        return weight_colours(cell.weight)
-    return DOTS[view.band(cell.cost)], FLOOR[cell.weight]
+def mark_colours(view, cell):
+    if cell.mark:
+        return MARKED[cell.mark]
+    if cell.cost is not None:
+        return DOTS[view.band(cell.cost)], FLOOR[cell.weight]
+    return weight_colours(cell.weight)
 
 
 def painted(text, pair):
     return f"\033[38;5;{pair[0]};48;5;{pair[1]}m{text}\033[0m"
 
 
-def painted_row(view, row, marks, wide, colour):
+def joined(pieces, colour):
+    """Characters with their colours as one text; neighbours of one colour are painted together."""
     if not colour:
-        return "".join(characters(view, cell, marks, wide) for cell in row)
+        return "".join(character for character, _ in pieces)
     stretches = []
-    for cell in row:
-        for character in characters(view, cell, marks, wide):
-            pair = colours(view, cell, character)
-            if stretches and stretches[-1][1] == pair:
-                stretches[-1][0] += character
-            else:
-                stretches.append([character, pair])
+    for character, pair in pieces:
+        if stretches and stretches[-1][1] == pair:
+            stretches[-1][0] += character
+        else:
+            stretches.append([character, pair])
     return "".join(painted(text, pair) for text, pair in stretches)
+
+
+def both_places(view, cell, marks):
+    """Mark and weight of a cell, each with its colours."""
+    return (mark_of(view, cell, marks), mark_colours(view, cell)), (weight_of(cell, marks), weight_colours(cell.weight))
+
+
+# How a row of the floor is laid out.
+BESIDE, OVER, ALONE = "each cell has its mark and then its weight", "each row of the floor is two lines, marks over weights", None
+
+
+def layout(view, columns, marks):
+    """Beside each other if the columns suffice, else one over the other; one place for both where no cell has both."""
+    if MARGIN + 2 + 2 * view.floor.width <= columns:
+        return BESIDE
+    hidden = any(mark_of(view, cell, marks) != " " and cell.weight != 1 for row in view.rows() for cell in row)
+    return OVER if hidden else ALONE
+
+
+def row_lines(view, row, marks, laid):
+    """The lines of a row, as characters with colours."""
+    places = [both_places(view, cell, marks) for cell in row]
+    if laid == BESIDE:
+        return [[place for both in places for place in both]]
+    if laid == OVER:
+        return [[mark for mark, _ in places], [weight for _, weight in places]]
+    return [[mark if mark[0] != " " else weight for mark, weight in places]]
 
 
 def scale(width, cell_width):
@@ -95,44 +112,65 @@ def scale(width, cell_width):
     return " " * (MARGIN + 1) + line
 
 
-def legend(view, marks, wide, colour):
+def bands(view):
+    """Each band that a dot shows, with the least and greatest cost of its dots."""
+    found = {}
+    for row in view.rows():
+        for cell in row:
+            if cell.cost is not None and cell.mark is None:
+                low, high = found.get(view.band(cell.cost), (cell.cost, cell.cost))
+                found[view.band(cell.cost)] = (min(low, cell.cost), max(high, cell.cost))
+    return sorted(found.items())
+
+
+def fault_name(view):
+    """What the mark of a faulty cell says, with the end that it stands on."""
+    ends = [name for name, number in (("start", view.start), ("goal", view.goal)) if number == view.fault]
+    return "where the claimed route goes wrong" + (f", at the {' and '.join(ends)}" if ends else "")
+
+
+def legend(view, marks, laid, colour):
+    """What stands in this picture, and nothing else."""
+
     def sample(text, pair):
         return painted(text, pair) if colour else text
 
-    ends = [sample("S", ENDS["start"]) + " start", sample("G", ENDS["goal"]) + " goal"]
-    if view.route:
-        ends.append(sample(marks.arrows[2], ROUTE) + " route, each cell with the step that leaves it")
-    lines = ["   ".join(ends)]
+    names = {"fault": fault_name(view), "both": "start and goal", "start": "start", "goal": "goal"}
+    shown = view.marks()
+    marked = [f"{sample(LETTERS[mark], MARKED[mark])} {name}" for mark, name in names.items() if mark in shown]
+    if "route" in shown:
+        arrows = sorted({cell.direction for row in view.rows() for cell in row if cell.mark == "route"})
+        marked.append(sample("".join(marks.arrows[direction] for direction in arrows), MARKED["route"]) + " route, each cell with the step that leaves it")
     floor = []
-    if view.has_blocked():
-        floor.append(sample(marks.blocked * (2 if wide else 1), BLOCKED) + " blocked")
+    if view.has(0):
+        floor.append(sample(marks.blocked, BLOCKED) + " blocked")
     if view.weights():
-        floor.append(" ".join(sample(str(weight), weight_colours(weight)) for weight in view.weights()) + " weight; where none stands, 1")
-    if floor:
-        lines.append("   ".join(floor))
-    if view.settled:
-        bands = [
-            sample(marks.dots[band], (DOTS[band], FLOOR[1])) + (f" {low} to {high}" if low != high else f" {low}")
-            for band, (low, high) in view.bands()
-        ]
-        lines.append("settled, by cost: " + "   ".join(bands))
-        if view.weights() and not wide:
-            lines.append("where a weight stands there is no room for the dot of a settled cell")
+        weights = " ".join(sample(str(weight), weight_colours(weight)) for weight in view.weights())
+        floor.append(f"{weights} weight" + ("; where none stands, 1" if view.has(1) else ""))
+    dots = [
+        sample(marks.dots[band], (DOTS[band], FLOOR[1])) + (f" {low} to {high}" if low != high else f" {low}") for band, (low, high) in bands(view)
+    ]
+    lines = ["   ".join(part) for part in (marked, floor) if part]
+    lines += ["settled, by cost: " + "   ".join(dots)] if dots else []
+    settled = {cell.mark for row in view.rows() for cell in row if cell.mark and cell.cost is not None}
+    lines += ["settled too: " + ", ".join(name for mark, name in SETTLED_TOO.items() if mark in settled)] if settled else []
+    lines += [laid] if laid and view.weights() else []
     return [" " * MARGIN + " " + line for line in lines]
 
 
 def picture(view, columns, colour, marks):
-    """The lines of the picture, two characters a cell if the columns suffice."""
+    """The lines of the picture, as far as it fits the columns."""
     width = view.floor.width
-    wide = MARGIN + 2 + 2 * width <= columns
-    cell_width = 2 if wide else 1
+    if MARGIN + 2 + width > columns:
+        return [f"no picture here: it needs {MARGIN + 2 + width} columns and there are {columns}; --svg FILE draws it at any size"]
+    laid = layout(view, columns, marks)
+    cell_width = 2 if laid == BESIDE else 1
     edge = marks.across * (width * cell_width)
     lines = [scale(width, cell_width), " " * MARGIN + marks.corners[0] + edge + marks.corners[1]]
     for y, row in enumerate(view.rows()):
         number = str(y) if y % 5 == 0 or view.floor.height <= 10 else ""
-        lines.append(f"{number:>{MARGIN - 1}} {marks.down}{painted_row(view, row, marks, wide, colour)}{marks.down}")
+        for line in row_lines(view, row, marks, laid):
+            lines.append(f"{number:>{MARGIN - 1}} {marks.down}{joined(line, colour)}{marks.down}")
+            number = ""
     lines.append(" " * MARGIN + marks.corners[2] + edge + marks.corners[3])
-    lines += legend(view, marks, wide, colour)
-    if MARGIN + 2 + width > columns:
-        lines.append(f"the picture needs {MARGIN + 2 + width} columns and the terminal has {columns}: --svg FILE draws it at any size")
-    return lines
+    return lines + legend(view, marks, laid, colour)

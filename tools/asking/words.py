@@ -1,12 +1,10 @@
 """Answers, refusals and differences in words."""
 import math
 
-from asking.programs import (
-    DIRECTIONS, FOUND, MARK, MOST_CELLS, MOST_SIDE, MOST_TEXT, NONE, REFUSED, STOPPED, cells_of,
-)
+from asking.programs import DIRECTIONS, FOUND, HOLDS, LARGEST, MARK, NONE, REFUSED, STOPPED, cells_of
 
-# The refusals in the words of the customer's paper.
-REFUSALS = {
+# Refusals and faults, as docs/MANUAL.md has them ("Refusals and faults").
+NUMBERS = {
     1: "width or height is 0 or above 256",
     2: "the map's length is not width x height",
     3: "a map byte is above 9",
@@ -31,7 +29,14 @@ REFUSALS = {
     28: "there is a further byte after the last row",
     29: "the map has more cells than the room for them",
     30: "the text room is too short",
+    41: "a direction is above 7, or odd with four ways",
+    42: "a step leaves the map",
+    43: "a step enters a blocked cell",
+    44: "a step cuts a corner",
+    45: "the route does not end at the goal",
+    46: "the route costs something else than was claimed",
 }
+KINDS = {REFUSED: "refused", FOUND: "found", NONE: "none", STOPPED: "stopped"}
 
 CELL_CHARACTERS = "cells are . and G (weight 1), 1 to 9 (their own weight), @, O and T (blocked)"
 
@@ -40,8 +45,25 @@ def count(number, thing):
     return f"{number} {thing}" if number == 1 else f"{number} {thing}s"
 
 
+def meaning(number):
+    return NUMBERS.get(number, "there is no such refusal or fault")
+
+
 def refusal(number):
-    return f"refused {number}: {REFUSALS.get(number, 'no number of the paper')}"
+    return f"refused {number}: {meaning(number)}"
+
+
+def verdict(given, floor, route, start):
+    """One line for what the check says of a claimed route."""
+    if given.kind == HOLDS:
+        return f"the claim holds: {count(len(route), 'step')} at cost {given.cost}"
+    if given.kind == REFUSED:
+        return f"the claim is {refusal(given.number)}"
+    if given.number in (45, 46):
+        return f"the claim is wrong, fault {given.number} after all {count(given.place, 'step')}: {meaning(given.number)}"
+    left = place(floor, cells_of(floor, start, route[: given.place])[-1])
+    way = DIRECTIONS[route[given.place]][0] if route[given.place] < len(DIRECTIONS) else str(route[given.place])
+    return f"the claim is wrong, fault {given.number} at step {given.place + 1}, {way} from {left}: {meaning(given.number)}"
 
 
 def answer(given):
@@ -83,7 +105,8 @@ def place(floor, cell):
 
 def asked(floor, question):
     odd = "" if question.zeros == b"\0\0\0" else f", last bytes {question.zeros.hex(' ')}"
-    return f"{place(floor, question.start)} to {place(floor, question.goal)}, {question.ways} ways, limit {question.limit}{odd}"
+    limit = "no limit" if question.limit == LARGEST else f"limit {question.limit}"
+    return f"{place(floor, question.start)} to {place(floor, question.goal)}, {question.ways} ways, {limit}{odd}"
 
 
 def sums(floor, start, route):
@@ -132,13 +155,16 @@ def shown(data):
     return ascii(data[:40].decode("latin-1")) + ("..." if len(data) > 40 else "")
 
 
-def advice_on_byte(text, offset):
+CARRIAGE_RETURN = "lines end in LF alone, so save the map with Unix line ends"
+
+
+def advice_on_byte(text, offset, otherwise):
     byte = text[offset : offset + 1]
     if byte == b"\r":
-        return "the byte is a carriage return; lines end in LF alone, so save the map with Unix line ends"
+        return f"the byte is a carriage return; {CARRIAGE_RETURN}"
     if byte == b"\n":
         return "the row ends too soon; every row has as many cells as the width says"
-    return f"the byte is {shown(byte)}; {CELL_CHARACTERS}"
+    return f"the byte is {shown(byte)}; {otherwise}"
 
 
 def advice_on_header(text, offset):
@@ -146,40 +172,29 @@ def advice_on_header(text, offset):
     if offset >= len(text):
         return "the text ends before it"
     if line.endswith(b"\r"):
-        return "the line ends in a carriage return; lines end in LF alone, so save the map with Unix line ends"
+        return f"the line ends in a carriage return; {CARRIAGE_RETURN}"
     return f"it reads {shown(line)}"
 
 
 def map_advice(refused, text):
-    """What to look for in the map, for a refusal of it."""
-    number = refused.number
-    if number == 14 and len(text) > MOST_TEXT:
-        return f"the text is longer than {MOST_TEXT} bytes; sides go up to {MOST_SIDE}"
-    if number == 14:
-        return f"sides go up to {MOST_SIDE}"
-    if number == 29:
-        return f"width x height is above {MOST_CELLS}; sides go up to {MOST_SIDE}"
-    if number in (21, 22, 23, 24):
+    """What to do about a map's refusal."""
+    if refused.number in (21, 22, 23, 24):
         return advice_on_header(text, refused.place)
-    if number == 25:
-        return advice_on_byte(text, refused.place)
-    if number == 26:
-        byte = text[refused.place : refused.place + 1]
-        return f"the byte is {shown(byte)}; the row is longer than the width says"
-    if number == 27:
+    if refused.number == 25:
+        return advice_on_byte(text, refused.place, CELL_CHARACTERS)
+    if refused.number == 26:
+        return advice_on_byte(text, refused.place, "the row is longer than the width says")
+    if refused.number == 27:
         return "rows are missing, or the last row is not whole; every row ends in LF, the last too"
-    if number == 28:
+    if refused.number == 28:
         return f"the byte is {shown(text[refused.place : refused.place + 1])}; there are more rows than the height says, or an empty line"
-    return ""
+    return "this should not happen to a map that is read"
 
 
 def map_refused(refused, text):
-    """Lines about a map that the program cannot use."""
-    lines = [f"map refused {refused.number} at {refused.place}: {REFUSALS.get(refused.number, 'no number of the paper')}"]
-    advice = map_advice(refused, text)
-    if refused.number in (14, 29):
-        lines.append(advice)
-    else:
-        line, column = line_and_column(text, refused.place)
-        lines.append(f"line {line}, column {column}: {advice}")
-    return lines
+    """Lines about a map that the reader refuses."""
+    line, column = line_and_column(text, refused.place)
+    return [
+        f"map refused {refused.number} at {refused.place}: {meaning(refused.number)}",
+        f"line {line}, column {column}: {map_advice(refused, text)}",
+    ]

@@ -1,0 +1,252 @@
+"""One question, one claimed route, or all least costs: asked of the proved programs, told in lines, as an object, as a picture."""
+import math
+import shutil
+import sys
+from collections import namedtuple
+
+from asking import drawing, terminal, words
+from asking.names import base_name, visible
+from asking.output import write_file
+from asking.programs import (
+    DIRECTIONS, FAULT, FOUND, HOLDS, LARGEST, MARK, NONE, PROGRAM_SIDE, REFUSED, STOPPED, MapRefusal, Planner, Trouble,
+    answer_of, cells_of, is_for_program, question, record_of,
+)
+from asking.view import View
+
+ANSWERED, DIFFERENT = 0, 1
+
+# All about one question. `holds`: the check of claimed routes takes the route that was found. `by`: who answered.
+Outcome = namedtuple("Outcome", "floor question answer rooms holds by")
+# What is told: lines, the same as an object, the picture (None: there is none), the lines over it in a file, the exit status.
+Told = namedtuple("Told", "lines object view headline status")
+
+BY_BOTH, BY_LIBRARY = "the program and the library, alike", f"the library; the program takes sides up to {PROGRAM_SIDE}"
+
+
+def cell_number(floor, cell):
+    """The number of x,y. What is off the map gets a number that is off every map, for the planner to refuse."""
+    x, y = cell
+    if 0 <= x < floor.width and 0 <= y < floor.height:
+        return y * floor.width + x
+    return MARK
+
+
+def sizes(path, floor):
+    return f"{base_name(path)}: {floor.width} wide, {floor.height} high"
+
+
+def about_map(path, floor):
+    return {"map": base_name(path), "width": floor.width, "height": floor.height}
+
+
+def place_words(floor, cell):
+    off = "" if cell_number(floor, cell) != MARK else " off the map"
+    return f"({cell[0]},{cell[1]}){off}"
+
+
+def asked_words(floor, given):
+    limit = "no limit" if given.limit == LARGEST else f"limit {given.limit}"
+    return f"from {place_words(floor, given.start)} to {place_words(floor, given.goal)}, {given.ways} ways, {limit}"
+
+
+def map_refused(given, text, refusal):
+    lines = words.map_refused(refusal, text)
+    line, column = words.line_and_column(text, refusal.place)
+    told = {"map": base_name(given.map), "kind": "map refused", "refusal": refusal.number, "place": refusal.place, "line": line, "column": column}
+    return Told([f"{base_name(given.map)}:", *lines], {**told, "why": words.meaning(refusal.number)}, None, None, DIFFERENT)
+
+
+def answer_object(answer):
+    """An answer with the names of its numbers."""
+    told = {"kind": words.KINDS.get(answer.kind, answer.kind)}
+    if answer.kind == REFUSED:
+        return {**told, "refusal": answer.refusal, "why": words.meaning(answer.refusal)}
+    names = {FOUND: {"cost": answer.number, "steps": answer.length}, NONE: {}, STOPPED: {"floor": answer.number}}
+    return {**told, **names.get(answer.kind, {"number": answer.number, "length": answer.length}), "settled": answer.settled}
+
+
+# ---- a question
+
+
+def search(calls, floor, text, given):
+    """The outcome of the question: of the library, and of the program too where it takes the map."""
+    asked = question(cell_number(floor, given.start), cell_number(floor, given.goal), given.limit, given.ways)
+    answer, rooms = calls.search(floor, asked)
+    by = BY_LIBRARY
+    if is_for_program(floor, text):
+        by = BY_BOTH
+        with Planner(text) as planner:
+            if answer_of(planner.answers(record_of(asked))) != answer:
+                raise Trouble("planner and calls answer differently, so they are not of one build: run 'rt check planner calls'")
+    holds = False
+    if answer.kind == FOUND:
+        verdict = calls.check_route(floor, asked, answer.number, rooms.route)
+        holds = verdict.kind == HOLDS and verdict.cost == answer.number
+    return Outcome(floor, asked, answer, rooms, holds, by)
+
+
+def more_about(outcome, root):
+    """Lines that say more than the answer's own line."""
+    floor, answer = outcome.floor, outcome.answer
+    if answer.kind == FOUND:
+        verdict = "holds" if outcome.holds else "DOES NOT HOLD"
+        return [
+            words.true_length(floor, outcome.question.start, outcome.rooms.route, root),
+            f"checked as a claimed route: {verdict} at cost {answer.number}",
+        ]
+    if answer.refusal in (5, 6):
+        return [f"on this map x goes from 0 to {floor.width - 1} and y from 0 to {floor.height - 1}"]
+    return []
+
+
+def outcome_object(given, outcome):
+    floor, answer = outcome.floor, outcome.answer
+    told = {**about_map(given.map, floor), "from": list(given.start), "to": list(given.goal), "ways": given.ways}
+    told |= {"limit": None if given.limit == LARGEST else given.limit, **answer_object(answer)}
+    if answer.kind == FOUND:
+        straight, diagonal = words.sums(floor, outcome.question.start, outcome.rooms.route)
+        told |= {"route": list(outcome.rooms.route), "p": straight, "q": diagonal, "true_length": straight + diagonal * math.sqrt(2)}
+        told |= {"checked": outcome.holds}
+    return {**told, "answered_by": ["planner", "library"] if outcome.by == BY_BOTH else ["library"]}
+
+
+def ask(given, calls, floor, text):
+    outcome = search(calls, floor, text, given)
+    root = terminal.marks_for(sys.stdout).root
+    rooms = outcome.rooms
+    view = View(floor, outcome.question, rooms.costs if rooms else None, rooms.route if rooms else b"")
+    subject = f"{sizes(given.map, floor)}; {asked_words(floor, given)}"
+    lines = [subject, words.answer(outcome.answer), *more_about(outcome, root)]
+    if view.route:
+        lines += words.listed("route:", words.directions(view.route), shutil.get_terminal_size().columns)
+    lines.append(f"answered by {outcome.by}")
+    good = outcome.holds if outcome.answer.kind == FOUND else outcome.answer.kind != REFUSED
+    headline = [words.answer(outcome.answer), *more_about(outcome, "√2")[:1], subject]
+    return Told(lines, outcome_object(given, outcome), view, headline, ANSWERED if good else DIFFERENT)
+
+
+# ---- a claimed route
+
+
+def fault_cell(floor, start, route, verdict):
+    """The cell where a claimed route goes wrong: the one that it must not enter, or the one that it should not have left or ended at; none if only its
+    cost is wrong."""
+    if verdict.kind != FAULT or verdict.number == 46:
+        return None
+    cells = cells_of(floor, start, route[: verdict.place])
+    if verdict.number in (43, 44):
+        return cells_of(floor, cells[-1], route[verdict.place : verdict.place + 1])[-1]
+    return cells[-1]
+
+
+def shown_steps(route, verdict):
+    """The steps of a claimed route up to its fault; a step into a cell of the map that it must not enter is shown too."""
+    if verdict.kind == REFUSED:
+        return b""
+    if verdict.kind == FAULT:
+        return route[: verdict.place + (verdict.number in (43, 44))]
+    return route
+
+
+def check(given, calls, floor, _):
+    """What the route check says of a claim."""
+    asked = question(cell_number(floor, given.start), cell_number(floor, given.goal), 0, given.ways)
+    verdict = calls.check_route(floor, asked, given.cost, given.check)
+    fault = fault_cell(floor, asked.start, given.check, verdict)
+    view = View(floor, asked, route=shown_steps(given.check, verdict), fault=fault)
+    ends = f"from {place_words(floor, given.start)} to {place_words(floor, given.goal)}, {given.ways} ways"
+    subject = f"{sizes(given.map, floor)}; a claimed route {ends}, {words.count(len(given.check), 'step')}, cost {given.cost}"
+    line = words.verdict(verdict, floor, given.check, asked.start)
+    told = {**about_map(given.map, floor), "from": list(given.start), "to": list(given.goal), "ways": given.ways, "route": list(given.check)}
+    told |= {"claimed_cost": given.cost, "kind": {HOLDS: "holds", FAULT: "fault"}.get(verdict.kind, "refused")}
+    if verdict.kind == HOLDS:
+        told |= {"cost": verdict.cost}
+    else:
+        told |= {"number": verdict.number, "place": verdict.place, "why": words.meaning(verdict.number)}
+        told |= {"cell": None if fault is None else [fault % floor.width, fault // floor.width]}
+    lines = [subject, line, "judged by the library's check of claimed routes"]
+    return Told(lines, told, view, [line, subject], ANSWERED if verdict.kind == HOLDS else DIFFERENT)
+
+
+def route_of(text):
+    """A claimed route's directions, from digits, from names, or from what the front end prints: '4220', 'S E E N', '1 S, 2 E, 1 N'."""
+    names = {name: number for number, (name, _, _) in enumerate(DIRECTIONS)}
+    if text.isascii() and text.isdigit():
+        return bytes(int(digit) for digit in text)
+    route, times = [], 1
+    parts = text.upper().replace(",", " ").split()
+    for place, part in enumerate(parts):
+        if part in names:
+            route += [names[part]] * times
+            times = 1
+        elif part.isascii() and part.isdigit() and len(part) <= 6 and parts[place + 1 : place + 2] and parts[place + 1] in names:
+            times = int(part)
+        else:
+            raise ValueError(f"a route is digits 0 to 7 such as 4220, or directions such as 1 S, 2 E, 1 N; {visible(part)} is neither")
+    return bytes(route)
+
+
+# ---- all least costs
+
+
+def all_costs(calls, floor, start, ways):
+    """The least costs from a start, all of them: a search that finds its goal leaves those that it settled, one that finds none has settled all. So a
+    goal that is not settled yet is asked for, until there is none, or none that can be reached."""
+    costs = (MARK,) * len(floor.cells)
+    width = floor.width
+    while True:
+        open_cells = [cell for cell, weight in enumerate(floor.cells) if weight and costs[cell] == MARK]
+        if not open_cells:
+            return costs
+        far = max(open_cells, key=lambda cell: abs(cell % width - start % width) + abs(cell // width - start // width))
+        answer, rooms = calls.search(floor, question(start, far, LARGEST, ways))
+        if answer.kind == REFUSED:
+            return answer
+        costs = rooms.costs
+        if answer.kind == NONE:
+            return costs
+
+
+def costs_table(given, calls, floor, _):
+    """Least costs from one start, as CSV or as an object."""
+    start = cell_number(floor, given.start)
+    asked = question(start, start, LARGEST, given.ways)
+    answer, _rooms = calls.search(floor, asked)
+    if answer.kind == REFUSED:
+        line = words.answer(answer)
+        return Told([f"{sizes(given.map, floor)}; least costs from {place_words(floor, given.start)}", line], answer_object(answer), None, None, DIFFERENT)
+    costs = all_costs(calls, floor, start, given.ways)
+    if not calls.table_is_right(floor, given.ways, start, costs):
+        raise Trouble("the check of cost tables does not take the costs that the search has left: run 'rt check calls'")
+    lines = ["x,y,weight,cost"]
+    lines += [
+        f"{cell % floor.width},{cell // floor.width},{floor.cells[cell]},{'' if cost == MARK else cost}" for cell, cost in enumerate(costs)
+    ]
+    rows = [[None if cost == MARK else cost for cost in costs[y * floor.width : (y + 1) * floor.width]] for y in range(floor.height)]
+    told = {**about_map(given.map, floor), "from": list(given.start), "ways": given.ways, "costs": rows}
+    return Told(lines, told, None, None, ANSWERED)
+
+
+# ---- told
+
+
+def tell(given, told, out, colour):
+    """Lines or an object, then the pictures. What has been answered is told before a picture can fail."""
+    if given.json:
+        out.object(told.object)
+    else:
+        out.lines(told.lines)
+        if told.view is not None and not given.quiet:
+            marks, columns = terminal.marks_for(out.stream), shutil.get_terminal_size().columns
+            out.lines(["", *terminal.picture(told.view, columns, colour, marks)])
+    if given.svg is not None and told.view is not None:
+        write_file(given.svg, drawing.svg(told.view, told.headline).encode("utf-8"), "the picture")
+        if given.svg != "-" and not given.json:
+            out.lines([f"the picture is in {visible(given.svg)}"])
+    return told.status
+
+
+def read_floor(calls, given, text):
+    """The floor, or what is told about a map that is refused."""
+    floor = calls.read_map(text)
+    return map_refused(given, text, floor) if isinstance(floor, MapRefusal) else floor
