@@ -30,14 +30,14 @@ def marks_for(stream):
 
 
 def mark_of(view, cell, marks):
-    """The character of the cell's mark, or a blank."""
+    """The character of the cell's mark, or a blank; a blocked cell fills both its places."""
     if cell.mark in LETTERS:
         return LETTERS[cell.mark]
     if cell.mark == "route":
         return marks.arrows[cell.direction]
     if cell.cost is not None:
         return marks.dots[view.band(cell.cost)]
-    return " "
+    return marks.blocked if cell.weight == 0 else " "
 
 
 def weight_of(cell, marks):
@@ -85,12 +85,12 @@ def both_places(view, cell, marks):
 BESIDE, OVER, ALONE = "each cell has its mark and then its weight", "each row of the floor is two lines, marks over weights", None
 
 
-def layout(view, columns, marks):
+def layout(view, columns):
     """Beside each other if the columns suffice, else one over the other; one place for both where no cell has both."""
     if MARGIN + 2 + 2 * view.floor.width <= columns:
         return BESIDE
-    hidden = any(mark_of(view, cell, marks) != " " and cell.weight != 1 for row in view.rows() for cell in row)
-    return OVER if hidden else ALONE
+    both = any((cell.mark or cell.cost is not None) and cell.weight != 1 for row in view.rows() for cell in row)
+    return OVER if both else ALONE
 
 
 def row_lines(view, row, marks, laid):
@@ -163,7 +163,7 @@ def picture(view, columns, colour, marks):
     width = view.floor.width
     if MARGIN + 2 + width > columns:
         return [f"no picture here: it needs {MARGIN + 2 + width} columns and there are {columns}; --svg FILE draws it at any size"]
-    laid = layout(view, columns, marks)
+    laid = layout(view, columns)
     cell_width = 2 if laid == BESIDE else 1
     edge = marks.across * (width * cell_width)
     lines = [scale(width, cell_width), " " * MARGIN + marks.corners[0] + edge + marks.corners[1]]
