@@ -221,6 +221,8 @@ def main():
         given = made.parse_args()
         check_usage(made, given)
         return answer(given)
+    except SystemExit as end:  # the parser's: wrong usage, --help, --version
+        return end.code or 0
     except Trouble as trouble:
         complain(str(trouble))
     except KeyboardInterrupt:
@@ -236,6 +238,5 @@ def main():
 
 
 if __name__ == "__main__":
-    status = main()
-    signal.signal(signal.SIGINT, stop_at_once)
-    sys.exit(status)
+    # All is written and closed. The interpreter's own way out would let Ctrl-C in again.
+    os._exit(main())

@@ -27,13 +27,13 @@ def failure(gone, what, reason):
     return b"planner: %d answers and %d bytes written, then %s failed: %s\n" % (*divmod(gone, RECORD), what, os.strerror(reason).encode())
 
 
-def fails(text, said, words=COMMAND, **streams):
-    in_folder(text, lambda folder: run(folder, ASKED, said, status=1, words=words, **streams))
+def fails(text, said, **streams):
+    in_folder(text, lambda folder: run(folder, ASKED, said, status=1, **streams))
 
 
-def without(stream):
-    """The words that start the program with a stream closed."""
-    return ["bash", "-c", f'exec "$@" {stream}&-', "bash", *COMMAND]
+def unfit(way):
+    """A stream that cannot be used: one that is open the other way only."""
+    return os.fdopen(os.open(os.devnull, way), "rb" if way == os.O_RDONLY else "wb")
 
 
 # ---- calls that fail ------------------------------------------------------------------------------------------------------------------
@@ -44,7 +44,8 @@ def failing_writes():
         fails(TEXT, failure(0, b"writing answers", errno.ENOSPC), stdout=full)
         fails(b"", failure(0, b"writing about the map", errno.ENOSPC), stdout=full)
         fails(None, failure(0, b"writing about the map", errno.ENOSPC), stdout=full)
-    fails(TEXT, failure(0, b"writing answers", errno.EBADF), words=without(">"))
+    with unfit(os.O_RDONLY) as output_only_read:
+        fails(TEXT, failure(0, b"writing answers", errno.EBADF), stdout=output_only_read)
 
 
 def full_file():
@@ -68,7 +69,8 @@ def failing_reads():
         opened = os.open(folder, os.O_RDONLY)
         fails(TEXT, failure(0, b"reading questions", errno.EISDIR), stdin=opened)
         os.close(opened)
-    fails(TEXT, failure(0, b"reading questions", errno.EBADF), words=without("<"))
+    with unfit(os.O_WRONLY) as input_only_written:
+        fails(TEXT, failure(0, b"reading questions", errno.EBADF), stdin=input_only_written)
 
     def no_file(folder):
         Path(folder, "floor.map").mkdir()

@@ -21,12 +21,12 @@ def in_folder(text, act):
         return act(folder)
 
 
-def run(folder, records, said=b"", status=0, words=COMMAND, **streams):
+def run(folder, records, said=b"", status=0, **streams):
     """What the program writes, if that comes here. Its status and what standard error has are as they are due; a refused map is status 0 too."""
     streams = {"stdout": subprocess.PIPE, **streams}
     if "stdin" not in streams:
         streams["input"] = records
-    ran = subprocess.run(words, cwd=folder, stderr=subprocess.PIPE, timeout=LONG, check=False, **streams)
+    ran = subprocess.run(COMMAND, cwd=folder, stderr=subprocess.PIPE, timeout=LONG, check=False, **streams)
     compare("standard error", ran.stderr, said)
     if ran.returncode != status:
         sys.exit(f"planner: ended with status {ran.returncode}, due is {status}")
