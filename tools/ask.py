@@ -24,7 +24,7 @@ try:
     from asking import questions, replaying
     from asking.names import visible
     from asking.output import Output, complain
-    from asking.programs import LARGEST, ROOT, Calls, Trouble, read_text
+    from asking.programs import LARGEST, ROOT, Calls, Trouble, clean_up, read_text
 except MemoryError:
     os.write(2, f"./run: {NO_MEMORY}\n".encode())
     os._exit(2)
@@ -214,9 +214,9 @@ def answer(given):
     return questions.tell(given, told, out, in_colour(given.color, out.stream))
 
 
-def main():
+def act():
+    """Answers the words of the command line, and gives the exit status; trouble is one line."""
     try:
-        signal.signal(signal.SIGINT, signal.default_int_handler)
         made = parser()
         given = made.parse_args()
         check_usage(made, given)
@@ -225,9 +225,6 @@ def main():
         return end.code or 0
     except Trouble as trouble:
         complain(str(trouble))
-    except KeyboardInterrupt:
-        signal.signal(signal.SIGINT, signal.SIG_IGN)
-        complain("stopped")
     except MemoryError:
         complain(NO_MEMORY)
     except OSError as error:
@@ -235,6 +232,24 @@ def main():
     except Exception as error:  # a person gets one line; who mends it has the kind and the words
         complain(f"an error of the front end itself, please report it: {type(error).__name__}: {visible(str(error))}")
     return FAILED
+
+
+def stop(*_):
+    # once is enough: nothing disturbs what is closed on the way out
+    signal.signal(signal.SIGINT, signal.SIG_IGN)
+    raise KeyboardInterrupt
+
+
+def main():
+    try:
+        signal.signal(signal.SIGINT, stop)
+        status = act()
+        signal.signal(signal.SIGINT, signal.SIG_IGN)
+    except KeyboardInterrupt:
+        complain("stopped")
+        status = FAILED
+    clean_up()
+    return status
 
 
 if __name__ == "__main__":

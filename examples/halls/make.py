@@ -12,7 +12,7 @@ HERE = Path(__file__).resolve().parent
 sys.path.insert(0, str(HERE.parents[1] / "tools"))
 sys.dont_write_bytecode = True
 
-from asking.programs import LARGEST, Planner, question, record_of  # noqa: E402
+from asking.programs import LARGEST, Planner, clean_up, question, record_of  # noqa: E402
 
 ALL = 4096
 
@@ -215,4 +215,7 @@ def main():
 
 
 if __name__ == "__main__":
-    main()
+    try:
+        main()
+    finally:
+        clean_up()

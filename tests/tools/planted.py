@@ -50,7 +50,7 @@ def noticed(path):
         try:
             done = subprocess.run(
                 [sys.executable, str(HERE / "front_end.py"), *tests], capture_output=True, text=True, timeout=LONG,
-                env={**os.environ, "FRONT_END": folder, "PYTHONDONTWRITEBYTECODE": "1"}, check=False,
+                env={**os.environ, "FRONT_END": folder, "TMPDIR": folder, "PYTHONDONTWRITEBYTECODE": "1"}, check=False,
             )
         except subprocess.TimeoutExpired:
             return f"the tests {' '.join(tests)} hang on it"

@@ -3,6 +3,8 @@
 Nothing is planned here. The layouts are those of docs/MANUAL.md ("Records") and of crates/calls/src/main.rt.
 """
 import os
+import secrets
+import shutil
 import stat
 import struct
 import subprocess
@@ -129,6 +131,22 @@ def exchange(process, sent, due):
     return process.stdout.read(due)
 
 
+FOLDERS = []
+
+
+def new_folder():
+    """A folder for a map. It is noted before it is made, so that it is found again whenever Ctrl-C comes."""
+    FOLDERS.append(os.path.join(tempfile.gettempdir(), f"fradnumber-{os.getpid()}-{secrets.token_hex(8)}"))
+    os.mkdir(FOLDERS[-1], 0o700)
+    return FOLDERS[-1]
+
+
+def clean_up():
+    """Takes away the folders that were made."""
+    for folder in FOLDERS:
+        shutil.rmtree(folder, ignore_errors=True)
+
+
 class Planner:
     """The program `planner` on one map, kept running: it answers each record as soon as it has come."""
 
@@ -136,18 +154,13 @@ class Planner:
         self.text = text
 
     def __enter__(self):
-        self.folder = tempfile.TemporaryDirectory()
-        try:
-            Path(self.folder.name, "floor.map").write_bytes(self.text)
-            self.process = started("planner", cwd=self.folder.name)
-        except BaseException:
-            self.folder.cleanup()
-            raise
+        folder = new_folder()
+        Path(folder, "floor.map").write_bytes(self.text)
+        self.process = started("planner", cwd=folder)
         return self
 
     def __exit__(self, kind, *_):
         status = ended(self.process)
-        self.folder.cleanup()
         if kind is None and status != 0:
             raise Trouble(self.failure(status))
 
