@@ -69,12 +69,16 @@ def test_names(folder):
 
 
 def test_memory(_):
-    """However little memory there is: an answer, or a line and status 2; what the interpreter itself says before it is up does not count."""
-    for megabytes in (24, 32, 40, 48, 64, 96, 128, 192, 256):
+    """However little memory there is: an answer, or a line and status 2. What the interpreter says before it has come to the front end does not count."""
+    answered = refused = 0
+    for megabytes in (*range(16, 64, 4), 96, 192, 384, 768):
         ended, out, err = run(["-c", f'ulimit -v {megabytes << 10}; exec "$@"', "bash", *ASK, *ROW], command=["bash"])
-        up = "init_" not in err and "Fatal Python error" not in err
-        expect(f"{megabytes} MB", not up or ("Traceback" not in err and (ended == 2 and err or ended == 0 and "found at cost 5600" in out)), f"{ended}\n{out}{err}")
-    print("tools: little memory")
+        answered += ended == 0 and "found at cost 5600" in out
+        refused += ended == 2 and "./run: " in err
+        good = "found at cost 5600" in out if ended == 0 else "./run: " in err if ended == 2 else "ask" not in err
+        expect(f"{megabytes} MB", good and not ("Traceback" in err and "ask" in err), f"{ended}\n{out}{err}")
+    expect("some is enough", answered)
+    print(f"tools: little memory: {answered} answers, {refused} lines")
 
 
 def test_interrupts(folder):
