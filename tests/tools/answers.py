@@ -7,7 +7,7 @@ from pathlib import Path
 
 import reference
 from common import HALLS, HERE, ROOT, bare, expect, expect_run, run, text_of, written
-from pictures import expect_picture, floor_due
+from pictures import Svg, expect_picture, floor_due
 
 # 01's cases: map, ways, from, to, limit, and what is said. The map's rows are parted by /.
 CASES = {
@@ -220,6 +220,12 @@ def test_claims(folder):
         steps = told["route"] if holds or told["number"] in (45, 46) else told["route"][: told["place"] + (told["number"] in (43, 44))]
         due = floor_due(weights, begin, end, ways, route=steps, fault=fault, settled=False)
         expect_picture(f"claim {route}", out, weights, due, begin, end, "beside")
+        drawn = Path(folder, "claim.svg")
+        expect_run([*words, "--quiet", "--svg", drawn], 0 if holds else 1, [said])
+        picture = Svg(drawn.read_bytes(), weights)
+        marks = {letter: sorted(picture.placed(picture.of("circle", letter), "cx", "cy")) for letter in "SG!"}
+        wanted = {"S": [begin] if begin != fault else [], "G": [end] if end != fault else [], "!": [] if fault is None else [fault]}
+        expect(f"claim {route} as SVG: its marks", marks == wanted, f"{marks} {wanted}")
     expect_run([HALLS / "row.map", "--from", "0,0", "--to", "1,0", "--check", "2" * 41, "--cost", "1"], 1, ["the claim is refused 12"])
     expect_run([HALLS / "row.map", "--from", "0,0", "--to", "99,0", "--check", "2", "--cost", "1"], 1, ["the claim is refused 6"])
     print(f"tools: {len(CLAIMS)} claimed routes, judged, with the faulty cell in the picture")
