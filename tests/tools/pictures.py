@@ -11,7 +11,8 @@ import reference
 from common import ASK, HALLS, environment, expect, expect_run, run, text_of, written
 
 MARGIN = 4
-ARROWS, PLAIN_ARROWS = "↑↗→↘↓↙←↖", "^/>\\v/<\\"
+ARROWS, PLAIN_ARROWS = "↑↗→↘↓↙←↖", "^/>\\v,<`"
+NAMES = ("N", "NE", "E", "SE", "S", "SW", "W", "NW")
 DOTS, PLAIN_DOTS = "·•●", "-=%"
 LETTERS = {"S": "start", "G": "goal", "B": "both", "!": "fault"}
 # What a cell must show: a mark (a letter's name, a direction, a band, or None) and a weight.
@@ -90,10 +91,9 @@ def cells_in(inside, width, height):
     return None, {}
 
 
-def mark_meaning(character, arrows, dots, due):
+def mark_meaning(character, arrows, dots):
     if character in arrows:
-        # in plain characters two directions share a stroke
-        return due if isinstance(due, tuple) and due[0] == "arrow" and arrows[due[1]] == character else ("arrow", arrows.index(character))
+        return "arrow", arrows.index(character)
     return ("dot", dots.index(character)) if character in dots else LETTERS.get(character)
 
 
@@ -101,13 +101,13 @@ def weight_meaning(character, blocked):
     return 0 if character == blocked else 1 if character == " " else int(character) if character.isdigit() else None
 
 
-def meanings(mark, weight, due, arrows, dots, blocked):
+def meanings(mark, weight, arrows, dots, blocked):
     """What a cell's characters mean."""
     if weight is not None:
-        return mark_meaning(mark.character, arrows, dots, due.mark), weight_meaning(weight.character, blocked)
+        return mark_meaning(mark.character, arrows, dots), weight_meaning(weight.character, blocked)
     if weight_meaning(mark.character, blocked) not in (None, 1):
         return None, weight_meaning(mark.character, blocked)
-    return mark_meaning(mark.character, arrows, dots, due.mark), 1
+    return mark_meaning(mark.character, arrows, dots), 1
 
 
 def legend_due(cells, due, layout, arrows, dots, blocked):
@@ -121,7 +121,8 @@ def legend_due(cells, due, layout, arrows, dots, blocked):
     marked = [words for mark, words in names.items() if mark in shown]
     directions = sorted({each.mark[1] for each in due.values() if isinstance(each.mark, tuple) and each.mark[0] == "arrow"})
     if directions:
-        marked.append("".join(arrows[direction] for direction in directions) + " route, each cell with the step that leaves it")
+        named = " ".join(f"{arrows[direction]} {NAMES[direction]}" for direction in directions)
+        marked.append(("".join(arrows[direction] for direction in directions) if arrows == ARROWS else named) + " route, each cell with the step that leaves it")
     lines += ["   ".join(marked)] if marked else []
     weights = sorted({each.weight for each in due.values()})
     floor = [f"{blocked} blocked"] if 0 in weights else []
@@ -187,7 +188,7 @@ def expect_picture(what, out, rows, due, start, goal, layout, colour=False, plai
     for cell, each in due.items():
         if cell not in cells:
             return
-        saw = meanings(*cells[cell], each, arrows, dots, blocked)
+        saw = meanings(*cells[cell], arrows, dots, blocked)
         if saw != (each.mark, each.weight):
             expect(f"{what}: cell {cell} shows {saw}, due is {(each.mark, each.weight)}", False, out)
             return

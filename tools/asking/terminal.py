@@ -2,9 +2,12 @@
 that it is readable without colour; colour comes on top."""
 from collections import namedtuple
 
+from asking.programs import DIRECTIONS
+
 Marks = namedtuple("Marks", "arrows dots blocked root corners across down")
 UNICODE = Marks("↑↗→↘↓↙←↖", "·•●", "█", "√2", "┌┐└┘", "─", "│")
-PLAIN = Marks("^/>\\v/<\\", "-=%", "#", " sqrt(2)", "++++", "-", "|")
+# one character for each direction here too, though no letter looks like an arrow: the legend names them
+PLAIN = Marks("^/>\\v,<`", "-=%", "#", " sqrt(2)", "++++", "-", "|")
 LETTERS = {"fault": "!", "both": "B", "start": "S", "goal": "G"}
 
 # Where a mark stands there is no dot.
@@ -140,7 +143,9 @@ def legend(view, marks, laid, colour):
     marked = [f"{sample(LETTERS[mark], MARKED[mark])} {name}" for mark, name in names.items() if mark in shown]
     if "route" in shown:
         arrows = sorted({cell.direction for row in view.rows() for cell in row if cell.mark == "route"})
-        marked.append(sample("".join(marks.arrows[direction] for direction in arrows), MARKED["route"]) + " route, each cell with the step that leaves it")
+        names = {direction: f" {DIRECTIONS[direction][0]} " if marks is PLAIN else "" for direction in arrows}
+        shown_arrows = "".join(sample(marks.arrows[direction], MARKED["route"]) + names[direction] for direction in arrows)
+        marked.append(shown_arrows.rstrip(" ") + " route, each cell with the step that leaves it")
     floor = []
     if view.has(0):
         floor.append(sample(marks.blocked, BLOCKED) + " blocked")
