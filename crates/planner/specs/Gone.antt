@@ -1,5 +1,5 @@
--- How many bytes have gone out, as standard error tells it when a call fails. No contract speaks of what the system did with them: a byte has gone out if a
--- write said so.
+-- How many bytes have gone out, as standard error tells it when a call fails. No contract speaks of what the system did with them: here a byte has gone out
+-- if `write_out` answers so, and that its answer is what the writes said is read in its code, not proved.
 use mathlib.Core.Path.{_≡_}
 use mathlib.Core.Bool.{Bool, true}
 use mathlib.Core.List.{List}
