@@ -1,5 +1,5 @@
 -- What is put into a record is read back from it, and 01's example holds of the definitions.
-use mathlib.Core.Path.{_≡_, refl}
+use mathlib.Core.Path.{_≡_, refl, sym}
 use mathlib.Core.Bool.{true}
 use mathlib.Core.List.{List, [], _∷_}
 use Prim.Native.Nat.{ℕ, _+_, _*_, _/_, _%_, _≤_, _<_}
@@ -12,7 +12,7 @@ use Rattle.search.specs.declared.Answer.{Answer}
 use Rattle.search.specs.declared.Answer.the-variants.{Found}
 use Rattle.search.specs.declared.AnswerNumbers.{AnswerNumbers}
 use Rattle.search.specs.Search.{question, numbersOf}
-use Rattle.recordlayout.specs.Record.{recordSize, little, numberAt, questionIn, waysIn, endsInZeros, recordFor, recordOf}
+use Rattle.recordlayout.specs.Record.{recordSize, little, numberAt, questionIn, waysIn, endsInZeros, recordFor, recordOf, answerIn}
 use Rattle.recordlayout.specs.Fields.{InRecord}
 
 pub record-length : (a : Answer) → length (recordOf a) ≡ recordSize
@@ -50,6 +50,15 @@ answer-back n fits = (
   number-back (n .number) (omega (arith, fits .number-fits)),
   number-back (n .length) (omega (arith, fits .length-fits)),
 )
+
+same-numbers : (n : AnswerNumbers) {p s m l : ℕ} → p ≡ n .place → s ≡ n .settled → m ≡ n .number → l ≡ n .length
+    → record { kind = n .kind; refusal = n .refusal; place = p; settled = s; number = m; length = l } ≡ n
+same-numbers n p s m l = rw (p, s, m, l)
+
+-- all of them at once; a place stands in no record
+pub numbers-back : (n : AnswerNumbers) → InRecord n → n .place ≡ 0 → answerIn (recordFor n) ≡ n
+unfolding answerIn
+numbers-back n fits none = let back = answer-back n fits in same-numbers n (sym none) (back .0) (back .1) (back .2)
 
 pub refusal-in-record : (n p : ℕ) → n < 256 → InRecord (numbersOf (Answer.Refused n p))
 refusal-in-record n p h = record {

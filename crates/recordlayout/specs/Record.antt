@@ -38,3 +38,14 @@ recordFor n = n .kind ∷ n .refusal ∷ 0 ∷ 0 ∷ little (n .settled) ++ litt
 
 unfoldable pub recordOf : Answer → List ℕ
 recordOf a = recordFor (numbersOf a)
+
+-- and the numbers that stand in one
+unfoldable pub answerIn : List ℕ → AnswerNumbers
+answerIn bytes = record {
+  kind = getD bytes 0 0;
+  refusal = getD bytes 1 0;
+  place = 0;
+  settled = numberAt bytes 4;
+  number = numberAt bytes 8;
+  length = numberAt bytes 12;
+}

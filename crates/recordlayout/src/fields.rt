@@ -1,8 +1,10 @@
-// Numbers and zeros read from a record.
+// Numbers and zeros read from a record, and records read from a file of them.
 ghost use mathlib.Core.Path.{_≡_};
 ghost use Prim.Native.Nat.{_+_, _≤_, _<_};
-ghost use lib.ListN.{length};
-ghost use Rattle.recordlayout.specs.Record.{numberAt, allZero};
+ghost use lib.ListN.{length, take, drop};
+ghost use Rattle.recordlayout.specs.Record.{recordSize, numberAt, allZero, answerIn};
+use crate::RECORD_SIZE;
+use search::AnswerNumbers;
 
 pub fn widened(byte: u8) -> u32
     ensures { λ r. ⌜ (r ≡ byte) × (r < 256) ⌝ }
@@ -32,4 +34,32 @@ pub fn all_zero(bytes: &[u8]) -> bool
         i += 1;
     }
     true
+}
+
+// The record at an offset of a file.
+pub fn record_at(bytes: &[u8], at: usize) -> [u8; RECORD_SIZE]
+    requires { ⌜ at + recordSize ≤ length (now bytes) ⌝ }
+    ensures { λ r. ⌜ r ≡ take recordSize (drop at (now (bytes .entry))) ⌝ }
+{
+    let end = at + RECORD_SIZE;
+    let mut record = [0u8; RECORD_SIZE];
+    bytes::copy(&bytes[at..end], &mut record);
+    record
+}
+
+// The numbers of an answer record. A place stands in no record.
+pub fn numbers_in(answer: &[u8]) -> AnswerNumbers
+    requires { ⌜ recordSize ≤ length (now answer) ⌝ }
+    ensures { λ r. ⌜ r ≡ answerIn (now (answer .entry)) ⌝ }
+{
+    let kind = widened(answer[0]);
+    let refusal = widened(answer[1]);
+    AnswerNumbers {
+        kind: kind as u64,
+        refusal: refusal as u64,
+        place: 0,
+        settled: number_at(answer, 4) as u64,
+        number: number_at(answer, 8) as u64,
+        length: number_at(answer, 12) as u64,
+    }
 }
