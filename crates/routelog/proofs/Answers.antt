@@ -1,0 +1,79 @@
+-- Which answers can be logged, test by test, in the order in which the code tries them.
+use mathlib.Core.Path.{_≡_, sym, _∙_}
+use mathlib.Core.Logic.{_≢_}
+use mathlib.Core.Bool.{Bool, true, false, cond, not, _&&_}
+use mathlib.Core.List.{List}
+use Prim.Native.Nat.{ℕ, _+_, _≤_, _<_}
+use native.Mathlib.Omega.{arith}
+use borrow.Author.Tests.{eq-eqb, ne-eqb, lt-ltb, le-leb, lt-leb}
+use lib.Dec.{T, eqb, leb, leb→le, eqb→eq}
+use lib.ListN.{getD, take, drop}
+use lib.Seq.{getD-drop}
+use Rattle.paths.specs.Graph.{MARK}
+use Rattle.paths.proofs.Bools.{T-and}
+use Rattle.recordlayout.specs.Record.{numberAt, allZero, answerIn}
+use Rattle.recordlayout.proofs.Zeros.{zero-at}
+use Rattle.search.specs.declared.AnswerNumbers.{AnswerNumbers}
+use Rattle.routelog.specs.Entry.{refusalFits, kindFits, canBeLogged, stepsIn}
+
+module _ (a : List ℕ) {n : AnswerNumbers} (read : n ≡ answerIn a) where
+  module _ (refused : n .kind ≡ 0) where
+    refused-is : answerIn a .kind ≡ 0
+    refused-is = cc
+
+    pub no-refusal : n .refusal ≡ 0 → canBeLogged a ≡ false
+    unfolding canBeLogged
+    no-refusal e = let none : answerIn a .refusal ≡ 0 = cc in rw (refused-is, none)
+
+    pub greater-refusal : 15 < n .refusal → canBeLogged a ≡ false
+    unfolding canBeLogged
+    greater-refusal h =
+        let great = rw read at h in
+        rw (refused-is, lt-ltb 0 (answerIn a .refusal) (omega arith), lt-leb (answerIn a .refusal) 15 great)
+
+    pub zeros-after : n .refusal ≢ 0 → n .refusal ≤ 15 → canBeLogged a ≡ allZero (drop 2 a)
+    unfolding canBeLogged
+    zeros-after some h =
+        let least : 0 < n .refusal = omega arith in
+        rw (refused-is, lt-ltb 0 (answerIn a .refusal) (rw read at least), le-leb (answerIn a .refusal) 15 (rw read at h))
+
+  module _ (answered : n .kind ≢ 0) where
+    other-kind : answerIn a .kind ≢ 0
+    other-kind = rw read at answered
+
+    pub no-zeros : allZero (take 3 (drop 1 a)) ≡ false → canBeLogged a ≡ false
+    unfolding canBeLogged
+    no-zeros e = rw (ne-eqb (answerIn a .kind) 0 other-kind, e)
+
+    pub by-kind : allZero (take 3 (drop 1 a)) ≡ true → canBeLogged a ≡ kindFits (n .kind) (n .number) (n .length)
+    unfolding canBeLogged
+    by-kind e = rw (ne-eqb (answerIn a .kind) 0 other-kind, e, ← read)
+
+-- an answer that can be logged has no more than 4,095 directions: those of kind 1 say so, and all others have none
+pub steps-few : (a : List ℕ) → T (canBeLogged a) → stepsIn a ≤ 4095
+unfolding canBeLogged kindFits answerIn
+steps-few a = go (eqb (getD a 0 0) 0) (eqb (getD a 0 0) 1) (eqb (getD a 0 0) 2) (eqb (getD a 0 0) 3)
+  where
+    none : (i : ℕ) → T (allZero (drop 2 a)) → getD a (2 + i) 0 ≡ 0
+    none i z = sym (getD-drop 2 a i 0) ∙ zero-at (drop 2 a) i z
+
+    go : (k₀ k₁ k₂ k₃ : Bool)
+        → T
+        (cond k₀ (refusalFits (getD a 1 0) && allZero (drop 2 a))
+        (allZero (take 3 (drop 1 a))
+        && cond k₁ (not (eqb (numberAt a 8) MARK) && leb (numberAt a 12) 4095)
+        (cond k₂ (eqb (numberAt a 8) MARK && eqb (numberAt a 12) 0) (cond k₃ (not (eqb (numberAt a 8) MARK) && eqb (numberAt a 12) 0) false))))
+        → numberAt a 12 ≤ 4095
+    go true k₁ k₂ k₃ t =
+        let z = T-and (refusalFits (getD a 1 0)) (allZero (drop 2 a)) t .1 in
+        omega (arith, none 10 z, none 11 z, none 12 z, none 13 z)
+    go false true k₂ k₃ t =
+        let few = T-and (allZero (take 3 (drop 1 a))) _ t .1 in
+        leb→le (numberAt a 12) 4095 (T-and (not (eqb (numberAt a 8) MARK)) (leb (numberAt a 12) 4095) few .1)
+    go false false true k₃ t =
+        let few = T-and (allZero (take 3 (drop 1 a))) _ t .1 in
+        omega (arith, eqb→eq (numberAt a 12) 0 (T-and (eqb (numberAt a 8) MARK) (eqb (numberAt a 12) 0) few .1))
+    go false false false true t =
+        let few = T-and (allZero (take 3 (drop 1 a))) _ t .1 in
+        omega (arith, eqb→eq (numberAt a 12) 0 (T-and (not (eqb (numberAt a 8) MARK)) (eqb (numberAt a 12) 0) few .1))
+    go false false false false t = absurd (T-and (allZero (take 3 (drop 1 a))) false t .1)

@@ -1,0 +1,5 @@
+pub mod Bytes
+pub mod Answers
+pub mod Sizes
+pub mod Judging
+pub mod Passing

@@ -1,0 +1,75 @@
+-- Each return is one of the tests of `canBeLogged`, with those before it passed.
+use borrow.Rule.Slice.PartAt.{part-to-end}
+use mathlib.Core.Path.{sym, ap, _∙_}
+use Rattle.recordlayout.specs.Record.{allZero}
+use Rattle.routelog.proofs.Answers.{no-refusal, greater-refusal, zeros-after, no-zeros, by-kind}
+use borrow.Author.Needs.{needs}
+use Rattle.routelog.proofs.entries.can_be_logged.Statement.{statement}
+use Rattle.routelog.proofs.entries.can_be_logged.Tie as tie
+
+numbers-in-requires : tie.Need-numbers-in-requires
+numbers-in-requires c κs = search needs
+
+returns : tie.Need-returns
+returns c = sym (no-refusal _ (c .before .before .before .before .numbers-in .ensures) (c .before .before .if1 .taken) (c .if2 .taken))
+
+returns-2 : tie.Need-returns-2
+returns-2 c = sym (greater-refusal _ (c .before .before .before .before .before .before .numbers-in .ensures) (c .before .before .before .before .if1 .taken) (c .if3 .taken))
+
+sub-all-zero : tie.Need-sub-all-zero
+sub-all-zero c = search needs
+
+part-all-zero-start : tie.Need-part-all-zero-start
+part-all-zero-start c = search needs
+
+part-all-zero-end : tie.Need-part-all-zero-end
+part-all-zero-end c = search needs
+
+all-zero-requires : tie.Need-all-zero-requires
+all-zero-requires c κs = search needs
+
+returns-3 : tie.Need-returns-3
+returns-3 c =
+    let zeros = c .all-zero .ensures ∙ ap allZero (part-to-end (c .before .before .before .before .before .before .before .before .before .before .args .answer .now) 2) in
+    zeros ∙ sym (zeros-after _ (c .before .before .before .before .before .before .before .before .numbers-in .ensures) (c .before .before .before .before .before .before .if1 .taken) (c .before .before .before .before .if2 .left) (c .before .before .if3 .left))
+
+sub-all-zero-2 : tie.Need-sub-all-zero-2
+sub-all-zero-2 c = search needs
+
+part-all-zero-start-2 : tie.Need-part-all-zero-start-2
+part-all-zero-start-2 c = search needs
+
+part-all-zero-end-2 : tie.Need-part-all-zero-end-2
+part-all-zero-end-2 c = search needs
+
+all-zero-requires-2 : tie.Need-all-zero-requires-2
+all-zero-requires-2 c κs = search needs
+
+kind-fits-requires : tie.Need-kind-fits-requires
+kind-fits-requires c κs = search needs
+
+returns-4 : tie.Need-returns-4
+returns-4 c = c .kind-fits .ensures ∙ sym (by-kind _ (c .before .before .before .before .before .before .numbers-in .ensures) (c .before .before .before .before .if1 .left) (sym (c .before .before .all-zero2 .ensures) ∙ c .before .if4 .taken))
+
+returns-5 : tie.Need-returns-5
+returns-5 c = sym (no-zeros _ (c .before .before .before .before .before .numbers-in .ensures) (c .before .before .before .if1 .left) (sym (c .before .all-zero2 .ensures) ∙ c .if4 .left))
+
+pub can-be-logged-spec : {M : Type 1} → statement M
+can-be-logged-spec =
+    tie.close
+    (tie.spec
+    numbers-in-requires
+    returns
+    returns-2
+    sub-all-zero
+    part-all-zero-start
+    part-all-zero-end
+    all-zero-requires
+    returns-3
+    sub-all-zero-2
+    part-all-zero-start-2
+    part-all-zero-end-2
+    all-zero-requires-2
+    kind-fits-requires
+    returns-4
+    returns-5)

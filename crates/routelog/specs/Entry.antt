@@ -1,0 +1,73 @@
+-- An entry of the route log, and its bytes: 02, R-1.
+use mathlib.Core.Path.{_≡_}
+use mathlib.Core.Bool.{Bool, true, false, cond, not, _&&_}
+use mathlib.Core.List.{List, [], _∷_, _++_}
+use Prim.Native.Nat.{ℕ, _+_, _-_, _*_, _/_}
+use lib.Dec.{T, eqb, leb, ltb}
+use lib.ListN.{length, take, drop, replicate}
+use Rattle.paths.specs.Graph.{MARK}
+use Rattle.recordlayout.specs.Record.{recordSize, allZero, answerIn}
+
+-- the question record, the answer record, and the directions of the route
+pub record Entry : Type 0 where
+  pub question : List ℕ
+  pub answer : List ℕ
+  pub route : List ℕ
+
+abbrev pub entryOf : List ℕ → List ℕ → List ℕ → Entry
+entryOf q a ds = record { question = q; answer = a; route = ds }
+
+-- n directions take as many records as hold them; this is how many bytes those have
+unfoldable pub routeSize : ℕ → ℕ
+routeSize n = (n + (recordSize - 1)) / recordSize * recordSize
+
+-- the last record of a route is filled up with 255
+abbrev pub filler : ℕ
+filler = 255
+
+unfoldable pub routeBytes : List ℕ → List ℕ
+routeBytes ds = ds ++ replicate (routeSize (length ds) - length ds) filler
+
+unfoldable pub entryBytes : Entry → List ℕ
+entryBytes e = e .question ++ e .answer ++ routeBytes (e .route)
+
+-- a refusal number from 1 to 15
+abbrev pub refusalFits : ℕ → Bool
+refusalFits n = ltb 0 n && leb n 15
+
+-- kind 1 with a cost that isn't MARK and a length up to 4,095, kind 2 with MARK and length 0, or kind 3 with a floor that isn't MARK and length 0
+unfoldable pub kindFits : ℕ → ℕ → ℕ → Bool
+kindFits kind number length =
+    cond (eqb kind 1) (not (eqb number MARK) && leb length 4095)
+    (cond (eqb kind 2) (eqb number MARK && eqb length 0)
+    (cond (eqb kind 3) (not (eqb number MARK) && eqb length 0) false))
+
+-- Which answers can be logged: kind 0, such a refusal number, zeros after it; or refusal number 0, two zeros, and such a kind
+unfoldable pub canBeLogged : List ℕ → Bool
+canBeLogged a =
+    let n = answerIn a in
+    cond (eqb (n .kind) 0) (refusalFits (n .refusal) && allZero (drop 2 a)) (allZero (take 3 (drop 1 a)) && kindFits (n .kind) (n .number) (n .length))
+
+-- how many directions an answer has: as many as its length says, which is 0 for every answer but found
+abbrev pub stepsIn : List ℕ → ℕ
+stepsIn a = answerIn a .length
+
+-- every byte lies between two
+abbrev pub allWithin : ℕ → ℕ → List ℕ → Bool
+allWithin least greatest [] = true
+allWithin least greatest (b ∷ bs) = (leb least b && leb b greatest) && allWithin least greatest bs
+
+-- no direction is above 7
+abbrev pub allDirections : List ℕ → Bool
+allDirections ds = allWithin 0 7 ds
+
+abbrev pub allFiller : List ℕ → Bool
+allFiller bs = allWithin filler filler bs
+
+-- the entries that can stand in a log
+pub record IsEntry (e : Entry) : Type 0 where
+  pub question-whole : length (e .question) ≡ recordSize
+  pub answer-whole : length (e .answer) ≡ recordSize
+  pub answer-fits : T (canBeLogged (e .answer))
+  pub count : length (e .route) ≡ stepsIn (e .answer)
+  pub directions : T (allDirections (e .route))

@@ -1,0 +1,91 @@
+// What the reader and the writer ask of an entry.
+ghost use mathlib.Core.Path.{_≡_};
+ghost use Prim.Native.Nat.{_≤_};
+ghost use lib.ListN.{length};
+ghost use Rattle.recordlayout.specs.Record.{recordSize};
+ghost use Rattle.routelog.specs.Entry.{routeSize, kindFits, canBeLogged, allWithin};
+use floor::MARK;
+use recordlayout::RECORD_SIZE;
+use recordlayout::fields::all_zero;
+use recordlayout::fields::numbers_in;
+
+// R-1: "a length up to 4,095".
+pub(crate) const GREATEST_LENGTH: u64 = 4095;
+
+// R-1: "a refusal number from 1 to 15".
+const GREATEST_REFUSAL: u64 = 15;
+
+// R-1: directions go up to 7, and the last record of a route is filled up with 255.
+pub(crate) const GREATEST_DIRECTION: u8 = 7;
+pub(crate) const FILLER: u8 = 255;
+
+// The bytes of as many records as hold that many directions.
+pub(crate) fn route_size(length: usize) -> usize
+    requires { ⌜ length ≤ 4095 ⌝ }
+    ensures { λ r. ⌜ r ≡ routeSize length ⌝ }
+{
+    (length + (RECORD_SIZE - 1)) / RECORD_SIZE * RECORD_SIZE
+}
+
+// Whether every byte lies between two.
+pub(crate) fn all_within(least: u8, greatest: u8, bytes: &[u8]) -> bool
+    ensures { λ r. ⌜ r ≡ allWithin least greatest (now (bytes .entry)) ⌝ }
+{
+    let mut i = 0;
+    while i < bytes.len() {
+        if bytes[i] < least {
+            return false;
+        }
+        if greatest < bytes[i] {
+            return false;
+        }
+        i += 1;
+    }
+    true
+}
+
+// Kinds 1, 2 and 3 with the number and the length that each may have.
+fn kind_fits(kind: u64, number: u64, length: u64) -> bool
+    ensures { λ r. ⌜ r ≡ kindFits kind number length ⌝ }
+{
+    if kind == 1 {
+        if number == MARK as u64 {
+            return false;
+        }
+        return length <= GREATEST_LENGTH;
+    }
+    if kind == 2 {
+        if number == MARK as u64 {
+            return length == 0;
+        }
+        return false;
+    }
+    if kind == 3 {
+        if number == MARK as u64 {
+            return false;
+        }
+        return length == 0;
+    }
+    false
+}
+
+// Whether an answer record can be logged.
+pub(crate) fn can_be_logged(answer: &[u8]) -> bool
+    requires { ⌜ length (now answer) ≡ recordSize ⌝ }
+    ensures { λ r. ⌜ r ≡ canBeLogged (now (answer .entry)) ⌝ }
+{
+    let numbers = numbers_in(answer);
+    if numbers.kind == 0 {
+        if numbers.refusal == 0 {
+            return false;
+        }
+        if GREATEST_REFUSAL < numbers.refusal {
+            return false;
+        }
+        return all_zero(&answer[2..]);
+    }
+    if all_zero(&answer[1..4]) {
+        return kind_fits(numbers.kind, numbers.number, numbers.length);
+    }
+    false
+}

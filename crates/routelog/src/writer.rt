@@ -1,0 +1,1 @@
+// One entry into a room.
