@@ -3,3 +3,4 @@ pub mod Answers
 pub mod Sizes
 pub mod Judging
 pub mod Passing
+pub mod Taking

@@ -31,11 +31,12 @@ unfolding readLines
 passes rest room e =
     let n = stepsIn (answerAt rest) in
     let none = none-given (readLines rest room) e in
-    let right = T-not-not _ (none .1 .1 .1 .0) in
-    let both = T-and (allDirections (take n (routeAt rest))) (allFiller (take (routeSize n - n) (drop n (routeAt rest)))) right in
+    let right = allDirections (take n (routeAt rest)) in
+    let full = allFiller (take (routeSize n - n) (drop n (routeAt rest))) in
+    let both = T-and right full (T-not-not (right && full) (none .1 .1 .1 .0)) in
     record {
       head-long = nltb→le (length rest) (recordSize + recordSize) (none .0);
-      logged = T-not-not _ (none .1 .0);
+      logged = T-not-not (canBeLogged (answerAt rest)) (none .1 .0);
       route-long = nltb→le (length (routeAt rest)) (routeSize n) (none .1 .1 .0);
       directions = both .0;
       filled = both .1;
@@ -45,8 +46,11 @@ passes rest room e =
 module _ {rest : List ℕ} {room : ℕ} (p : Passes rest room) where
   pub pass : screen (readLines rest room) ≡ Passed
   pass =
-      by-route rest room (p .head-long) (T-true _ (p .logged)) refl refl
-      ∙ route-passes (routeAt rest) (stepsIn (answerAt rest)) room (p .route-long) (T-true _ (p .directions)) (T-true _ (p .filled)) (p .room-long)
+      let n = stepsIn (answerAt rest) in
+      by-route rest room (p .head-long) (T-true (canBeLogged (answerAt rest)) (p .logged)) refl refl
+      ∙ route-passes (routeAt rest) n room (p .route-long) (T-true (allDirections (take n (routeAt rest))) (p .directions))
+      (T-true (allFiller (take (routeSize n - n) (drop n (routeAt rest)))) (p .filled))
+      (p .room-long)
 
   pub question-length : length (questionAt rest) ≡ recordSize
   question-length = length-take-le recordSize rest (omega (arith, p .head-long))

@@ -17,6 +17,7 @@ const GREATEST_REFUSAL: u64 = 15;
 
 // R-1: directions go up to 7, and the last record of a route is filled up with 255.
 pub(crate) const GREATEST_DIRECTION: u8 = 7;
+
 pub(crate) const FILLER: u8 = 255;
 
 // The bytes of as many records as hold that many directions.

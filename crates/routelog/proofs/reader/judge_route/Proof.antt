@@ -11,7 +11,6 @@ use borrow.Author.Needs.{needs}
 use Rattle.routelog.proofs.reader.judge_route.Statement.{statement}
 use Rattle.routelog.proofs.reader.judge_route.Tie as tie
 
-
 route-size-requires : tie.Need-route-size-requires
 route-size-requires c κs = search needs
 

@@ -1,68 +1,84 @@
+-- The rest of the file has passed, so that the records and the route are there and the route has room; what is copied is the entry.
+use Prim.Native.Nat.{_+_, _-_, _≤_}
+use Rattle.routelog.proofs.Sizes.{size-holds}
+use mathlib.Core.Path.{_≡_, sym, ap, _∙_}
+use native.Mathlib.Omega.{arith}
+use lib.ListN.{length, length-drop}
+use Rattle.search.specs.declared.AnswerNumbers.{AnswerNumbers}
+use Rattle.recordlayout.specs.Record.{answerIn}
+use Rattle.routelog.specs.Entry.{stepsIn}
+use Rattle.routelog.specs.Reading.{answerAt}
+use Rattle.routelog.proofs.Answers.{steps-few}
+use Rattle.routelog.proofs.Passing.{Passes, passes, steps-there}
+use Rattle.routelog.proofs.Taking.{taken}
 use borrow.Author.Needs.{needs}
 use Rattle.routelog.proofs.reader.take_entry.Statement.{statement}
 use Rattle.routelog.proofs.reader.take_entry.Tie as tie
-use Rattle.routelog.proofs.reader.take_entry.Reads as reads
-use Rattle.routelog.proofs.reader.take_entry.Lts as lts
-use Rattle.bytes.proofs.copy.Reads as copy-reads
-use Rattle.recordlayout.proofs.fields.numbers_in.Reads as numbers-in-reads
-use Rattle.recordlayout.proofs.fields.record_at.Reads as record-at-reads
-use Rattle.routelog.proofs.entries.route_size.Reads as route-size-reads
 
--- src/reader.rt:73:9
+known : (c : tie.Start) → Passes (c .args .rest .now) (length (c .args .route .now))
+known c = passes _ _ (c .pre)
+
+abbrev start : tie.After-numbers-in → tie.Start
+start c = c .before .before .before .before .before .before
+
+-- how many directions there are
+steps : (c : tie.After-numbers-in) → c .numbers-in .result .length ≡ stepsIn (answerAt (start c .args .rest .now))
+steps c = ap (λ (n : AnswerNumbers). n .length) (c .numbers-in .ensures ∙ ap answerIn (c .before .before .record-at2 .ensures))
+
+few : (c : tie.After-numbers-in) → c .numbers-in .result .length ≤ 4095
+few c = omega (arith, steps c, steps-few _ (known (start c) .logged))
+
+within : (c : tie.After-numbers-in) → 32 + c .numbers-in .result .length ≤ length (start c .args .rest .now)
+within c =
+    let k = known (start c) in
+    omega (arith, steps c, size-holds (stepsIn (answerAt (start c .args .rest .now))), k .route-long, k .head-long, length-drop 32 (start c .args .rest .now))
+
 record-at-requires : tie.Need-record-at-requires
-record-at-requires c κs = ?
+record-at-requires c κs = omega (arith, known (c .before .before))
 
--- src/reader.rt:74:18
 record-at-requires-2 : tie.Need-record-at-requires-2
-record-at-requires-2 c κs = ?
+record-at-requires-2 c κs = omega (arith, known (c .before .before .before))
 
--- src/reader.rt:75:30
 slice-aggregate-numbers-in : tie.Need-slice-aggregate-numbers-in
 slice-aggregate-numbers-in c = search needs
 
--- src/reader.rt:75:9
 numbers-in-requires : tie.Need-numbers-in-requires
 numbers-in-requires c κs = search needs
 
--- src/reader.rt:77:20
 add-route-at : tie.Need-add-route-at
 add-route-at c = search needs
 
--- src/reader.rt:78:15
 add-end : tie.Need-add-end
-add-end c = ?
+add-end c = omega (arith, few c)
 
--- src/reader.rt:79:17
 sub-copy : tie.Need-sub-copy
 sub-copy c = search needs
 
--- src/reader.rt:79:17
 part-copy-start : tie.Need-part-copy-start
 part-copy-start c = search needs
 
--- src/reader.rt:79:17
 part-copy-end : tie.Need-part-copy-end
-part-copy-end c = ?
+part-copy-end c = omega (arith, within c)
 
--- src/reader.rt:79:5
 copy-requires : tie.Need-copy-requires
-copy-requires c κs = ?
+copy-requires c κs =
+    let k = known (c .before .before .before .before .before .before .before .before) in
+    let count : 32 + c .before .before .numbers-in .result .length - 32 ≡ stepsIn (answerAt (c .before .before .before .before .before .before .before .before .args .rest .now)) = omega (arith, steps (c .before .before)) in
+    rw count (omega (arith, steps-there k, k .room-long))
 
--- src/reader.rt:81:53
 route-size-requires : tie.Need-route-size-requires
-route-size-requires c κs = ?
+route-size-requires c κs = few (c .before .before .before .before .before)
 
--- src/reader.rt:81:42
 add-t14 : tie.Need-add-t14
-add-t14 c = ?
+add-t14 c = omega (arith, few (c .before .before .before .before .before .before), size-holds (c .before .before .before .before .before .before .numbers-in .result .length), c .route-size .ensures)
 
--- src/reader.rt:69:1
 same-length : tie.Need-same-length
 same-length c = search needs
 
--- src/reader.rt:69:1
 returns : tie.Need-returns
-returns c = ?
+returns c =
+    let s = c .before .before .before .before .before .before .before .before .before .before .before .before in
+    taken (known s) (c .before .before .before .before .before .before .before .before .before .record-at .ensures) (c .before .before .before .before .before .before .before .before .record-at2 .ensures) (steps (c .before .before .before .before .before .before)) (c .route-size .ensures) (c .before .before .before .copy .ensures .1)
 
 pub take-entry-spec : {M : Type 1} → statement M
 take-entry-spec =
