@@ -13,13 +13,13 @@ use Rattle.routelog.specs.declared.EntryWritten.{EntryWritten}
 use Rattle.routelog.specs.declared.EntryWritten.the-variants.{Length}
 use Rattle.routelog.specs.Entry.{Entry, entryBytes, canBeLogged, stepsIn, allDirections}
 
--- 62: the answer can't be logged; 63: a wrong count of directions (any, if not found), or one above 7; 64: the room is shorter than the entry
+-- 62: the answer can't be logged; 63: a wrong count of directions (any, if not found), or one above 7
+abbrev pub partLines : List ℕ → List ℕ → List Line
+partLines a ds = line 62 (not (canBeLogged a)) 0 ∷ line 63 (not (eqb (length ds) (stepsIn a) && allDirections ds)) 0 ∷ []
+
+-- the writer's refusals, for a room of that length: these, and then 64: the room is shorter than the entry
 abbrev pub writeLines : Entry → ℕ → List Line
-writeLines e room =
-    line 62 (not (canBeLogged (e .answer))) 0
-    ∷ line 63 (not (eqb (length (e .route)) (stepsIn (e .answer)) && allDirections (e .route))) 0
-    ∷ line 64 (ltb room (length (entryBytes e))) 0
-    ∷ []
+writeLines e room = partLines (e .answer) (e .route) ++ (line 64 (ltb room (length (entryBytes e))) 0 ∷ [])
 
 -- the paper's numbers of each case: the entry's length, or the refusal
 abbrev pub numbersOf : EntryWritten → Numbers

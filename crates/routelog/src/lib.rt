@@ -7,7 +7,7 @@ mod writer; // writer.rt: one entry into a room
 
 pub use reader::read_entry;
 use recordlayout::RECORD_SIZE;
-// pub use writer::write_entry;
+pub use writer::write_entry;
 
 // What the rest of a file begins with: nothing, if it is empty; a refusal's number and place; or an entry, with the route's length and how many
 // bytes it took. `numbersOf` in specs/Reading.antt.

@@ -1,1 +1,92 @@
 // One entry into a room.
+ghost use mathlib.Core.Path.{_≡_};
+ghost use Prim.Native.Nat.{_+_, _≤_};
+ghost use lib.ListN.{length, replicate};
+ghost use Rattle.floor.specs.Refusal.{screen};
+ghost use Rattle.textlines.specs.Working.{IsPut};
+ghost use Rattle.recordlayout.specs.Record.{recordSize};
+ghost use Rattle.routelog.specs.Entry.{entryOf, routeSize, filler, routeBytes, entryBytes};
+ghost use Rattle.routelog.specs.Writing.{partLines, IsWritten};
+use crate::EntryWritten;
+use crate::entries::FILLER;
+use crate::entries::GREATEST_DIRECTION;
+use crate::entries::all_within;
+use crate::entries::can_be_logged;
+use crate::entries::route_size;
+use floor::Screen;
+use recordlayout::RECORD_SIZE;
+use recordlayout::fields::numbers_in;
+use textlines::lines::put;
+
+// Fills that many bytes of the room, and answers the place after them.
+fn put_filler(count: usize, room: &mut [u8], at: usize) -> usize
+    requires { ⌜ at + count ≤ length (now room) ⌝ }
+    ensures { λ r. ⌜ IsPut (replicate count filler) (now (room .entry)) at r (now (room .exit)) ⌝ }
+{
+    let mut i = 0;
+    while i < count {
+        room[at + i] = FILLER;
+        i += 1;
+    }
+    at + i
+}
+
+fn put_route(directions: &[u8], room: &mut [u8], at: usize) -> usize
+    requires { ⌜ (length (now directions) ≤ 4095) × (at + routeSize (length (now directions)) ≤ length (now room)) ⌝ }
+    ensures { λ r. ⌜ IsPut (routeBytes (now (directions .entry))) (now (room .entry)) at r (now (room .exit)) ⌝ }
+{
+    let count = directions.len();
+    let left = route_size(count) - count;
+    let end = put(directions, room, at);
+    put_filler(left, room, end)
+}
+
+fn put_entry(question: &[u8], answer: &[u8], directions: &[u8], room: &mut [u8]) -> usize
+    requires { ⌜ (length (now directions) ≤ 4095) × (length (entryBytes (entryOf (now question) (now answer) (now directions))) ≤ length (now room)) ⌝ }
+    ensures { λ r. ⌜ IsPut (entryBytes (entryOf (now (question .entry)) (now (answer .entry)) (now (directions .entry)))) (now (room .entry)) 0 r (now (room .exit)) ⌝ }
+{
+    let answer_at = put(question, room, 0);
+    let route_at = put(answer, room, answer_at);
+    put_route(directions, room, route_at)
+}
+
+// What is refused of an answer and directions.
+fn judge_parts(answer: &[u8], directions: &[u8]) -> Screen
+    requires { ⌜ length (now answer) ≡ recordSize ⌝ }
+    ensures { λ r. ⌜ r ≡ screen (partLines (now (answer .entry)) (now (directions .entry))) ⌝ }
+{
+    if can_be_logged(answer) {
+        let numbers = numbers_in(answer);
+        let length = numbers.length as usize;
+        if directions.len() == length {
+            if all_within(0, GREATEST_DIRECTION, directions) {
+                return Screen::Passed;
+            }
+        }
+        return Screen::Refused(63, 0);
+    }
+    Screen::Refused(62, 0)
+}
+
+// R-1: 62, 63 and 64 are tried before the first byte is stored, and a refusal alters nothing.
+pub fn write_entry(
+    question: [u8; RECORD_SIZE],
+    answer: [u8; RECORD_SIZE],
+    directions: &[u8],
+    room: &mut [u8],
+) -> EntryWritten
+    ensures { λ r. ⌜ IsWritten (entryOf question answer (now (directions .entry))) (now (room .entry)) r (now (room .exit)) ⌝ }
+{
+    let judged = judge_parts(&answer, directions);
+    match judged {
+        Screen::Refused(number, place) => EntryWritten::Refused(number, place),
+        Screen::Passed => {
+            let size = RECORD_SIZE + RECORD_SIZE + route_size(directions.len());
+            if room.len() < size {
+                return EntryWritten::Refused(64, 0);
+            }
+            let end = put_entry(&question, &answer, directions, room);
+            EntryWritten::Length(end)
+        }
+    }
+}
