@@ -5,3 +5,5 @@ pub mod Judging
 pub mod Passing
 pub mod Taking
 pub mod Writing
+pub mod Promises
+pub mod Back
