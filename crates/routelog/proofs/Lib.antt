@@ -7,3 +7,6 @@ pub mod Taking
 pub mod Writing
 pub mod Promises
 pub mod Back
+pub mod Found
+pub mod Files
+pub mod Torn

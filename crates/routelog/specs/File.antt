@@ -1,10 +1,12 @@
 -- A whole file of the route log: 02, R-1. It is read entry by entry.
+use mathlib.Core.Bool.{cond}
 use mathlib.Core.List.{List, [], _∷_, _++_}
-use Prim.Native.Nat.{ℕ, zero, suc}
+use Prim.Native.Nat.{ℕ, zero, suc, _-_, _≤_}
+use lib.Dec.{leb, eqb}
 use lib.ListN.{length, drop}
 use Rattle.floor.specs.declared.Screen.{Screen}
 use Rattle.floor.specs.declared.Screen.the-variants.{Passed, Refused}
-use Rattle.routelog.specs.Entry.{Entry, entryBytes}
+use Rattle.routelog.specs.Entry.{Entry, entryBytes, IsEntry}
 use Rattle.routelog.specs.Reading.{Reading, empty, refused, entry, readingOf}
 
 -- the bytes of a list of entries
@@ -39,3 +41,16 @@ entriesOf room (suc n) file = andThen (readingOf file room) (entriesOf room n (r
 -- the reading of a whole file; an entry has bytes, so there are no more entries than bytes
 unfoldable pub logOf : List ℕ → ℕ → Log
 logOf file room = entriesOf room (length file) file
+
+-- entries that can stand in a log, with routes that a room of that length holds
+abbrev pub AllEntries : ℕ → List Entry → Type 0
+AllEntries room [] = Unit {0}
+AllEntries room (e ∷ es) = IsEntry e × (length (e .route) ≤ room) × AllEntries room es
+
+-- the entries whose bytes are whole among the first n of a file, and how the file ends if it is cut there
+abbrev pub wholeBefore : ℕ → List Entry → List Entry
+wholeBefore n [] = []
+wholeBefore n (e ∷ es) = cond (leb (length (entryBytes e)) n) (e ∷ wholeBefore (n - length (entryBytes e)) es) []
+
+abbrev pub cutEnding : ℕ → List Entry → Screen
+cutEnding n es = cond (eqb n (length (fileBytes (wholeBefore n es)))) Passed (Refused 61 0)
