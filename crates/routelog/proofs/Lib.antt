@@ -10,3 +10,4 @@ pub mod Back
 pub mod Found
 pub mod Files
 pub mod Torn
+pub mod RoundTrip
