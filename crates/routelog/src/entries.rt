@@ -50,10 +50,10 @@ fn kind_fits(kind: u64, number: u64, length: u64) -> bool
     ensures { λ r. ⌜ r ≡ kindFits kind number length ⌝ }
 {
     if kind == 1 {
-        if number == MARK as u64 {
-            return false;
+        if number != MARK as u64 {
+            return length <= GREATEST_LENGTH;
         }
-        return length <= GREATEST_LENGTH;
+        return false;
     }
     if kind == 2 {
         if number == MARK as u64 {

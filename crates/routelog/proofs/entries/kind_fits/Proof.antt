@@ -10,11 +10,11 @@ cast-if2 c = search needs
 
 returns : tie.Need-returns
 unfolding kindFits
-returns c = rw (c .before .if1 .taken, c .if2 .taken)
+returns c = rw (c .before .if1 .taken, ne-eqb _ _ (c .if2 .taken))
 
 returns-2 : tie.Need-returns-2
 unfolding kindFits
-returns-2 c = rw (c .before .if1 .taken, ne-eqb _ _ (c .if2 .left))
+returns-2 c = rw (c .before .if1 .taken, c .if2 .left)
 
 cast-if4 : tie.Need-cast-if4
 cast-if4 c = search needs
