@@ -14,7 +14,7 @@ use Rattle.paths.proofs.Bools.{T-and}
 use Rattle.recordlayout.specs.Record.{numberAt, allZero, answerIn}
 use Rattle.recordlayout.proofs.Zeros.{zero-at}
 use Rattle.search.specs.declared.AnswerNumbers.{AnswerNumbers}
-use Rattle.routelog.specs.Entry.{refusalFits, kindFits, canBeLogged, stepsIn}
+use Rattle.routelog.specs.Entry.{greatestRefusal, greatestLength, refusalFits, kindFits, canBeLogged, stepsIn}
 
 module _ (a : List ℕ) {n : AnswerNumbers} (read : n ≡ answerIn a) where
   module _ (refused : n .kind ≡ 0) where
@@ -25,17 +25,17 @@ module _ (a : List ℕ) {n : AnswerNumbers} (read : n ≡ answerIn a) where
     unfolding canBeLogged
     no-refusal e = let none : answerIn a .refusal ≡ 0 = cc in rw (refused-is, none)
 
-    pub greater-refusal : 15 < n .refusal → canBeLogged a ≡ false
+    pub greater-refusal : greatestRefusal < n .refusal → canBeLogged a ≡ false
     unfolding canBeLogged
     greater-refusal h =
         let great = rw read at h in
-        rw (refused-is, lt-ltb 0 (answerIn a .refusal) (omega arith), lt-leb (answerIn a .refusal) 15 great)
+        rw (refused-is, lt-ltb 0 (answerIn a .refusal) (omega arith), lt-leb (answerIn a .refusal) greatestRefusal great)
 
-    pub zeros-after : n .refusal ≢ 0 → n .refusal ≤ 15 → canBeLogged a ≡ allZero (drop 2 a)
+    pub zeros-after : n .refusal ≢ 0 → n .refusal ≤ greatestRefusal → canBeLogged a ≡ allZero (drop 2 a)
     unfolding canBeLogged
     zeros-after some h =
         let least : 0 < n .refusal = omega arith in
-        rw (refused-is, lt-ltb 0 (answerIn a .refusal) (rw read at least), le-leb (answerIn a .refusal) 15 (rw read at h))
+        rw (refused-is, lt-ltb 0 (answerIn a .refusal) (rw read at least), le-leb (answerIn a .refusal) greatestRefusal (rw read at h))
 
   module _ (answered : n .kind ≢ 0) where
     other-kind : answerIn a .kind ≢ 0
@@ -50,7 +50,7 @@ module _ (a : List ℕ) {n : AnswerNumbers} (read : n ≡ answerIn a) where
     by-kind e = rw (ne-eqb (answerIn a .kind) 0 other-kind, e, ← read)
 
 -- an answer that can be logged has no more than 4,095 directions: those of kind 1 say so, and all others have none
-pub steps-few : (a : List ℕ) → T (canBeLogged a) → stepsIn a ≤ 4095
+pub steps-few : (a : List ℕ) → T (canBeLogged a) → stepsIn a ≤ greatestLength
 unfolding canBeLogged kindFits answerIn
 steps-few a = go (eqb (getD a 0 0) 0) (eqb (getD a 0 0) 1) (eqb (getD a 0 0) 2) (eqb (getD a 0 0) 3)
   where
@@ -61,15 +61,15 @@ steps-few a = go (eqb (getD a 0 0) 0) (eqb (getD a 0 0) 1) (eqb (getD a 0 0) 2) 
         → T
         (cond k₀ (refusalFits (getD a 1 0) && allZero (drop 2 a))
         (allZero (take 3 (drop 1 a))
-        && cond k₁ (not (eqb (numberAt a 8) MARK) && leb (numberAt a 12) 4095)
+        && cond k₁ (not (eqb (numberAt a 8) MARK) && leb (numberAt a 12) greatestLength)
         (cond k₂ (eqb (numberAt a 8) MARK && eqb (numberAt a 12) 0) (cond k₃ (not (eqb (numberAt a 8) MARK) && eqb (numberAt a 12) 0) false))))
-        → numberAt a 12 ≤ 4095
+        → numberAt a 12 ≤ greatestLength
     go true k₁ k₂ k₃ t =
         let z = T-and (refusalFits (getD a 1 0)) (allZero (drop 2 a)) t .1 in
         omega (arith, none 10 z, none 11 z, none 12 z, none 13 z)
     go false true k₂ k₃ t =
         let few = T-and (allZero (take 3 (drop 1 a))) _ t .1 in
-        leb→le (numberAt a 12) 4095 (T-and (not (eqb (numberAt a 8) MARK)) (leb (numberAt a 12) 4095) few .1)
+        leb→le (numberAt a 12) greatestLength (T-and (not (eqb (numberAt a 8) MARK)) (leb (numberAt a 12) greatestLength) few .1)
     go false false true k₃ t =
         let few = T-and (allZero (take 3 (drop 1 a))) _ t .1 in
         omega (arith, eqb→eq (numberAt a 12) 0 (T-and (eqb (numberAt a 8) MARK) (eqb (numberAt a 12) 0) few .1))

@@ -11,3 +11,4 @@ pub mod Found
 pub mod Files
 pub mod Torn
 pub mod RoundTrip
+pub mod Logging

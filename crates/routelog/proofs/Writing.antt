@@ -17,7 +17,7 @@ use Rattle.textlines.specs.Working.{IsPut}
 use Rattle.textlines.proofs.Rooms.{sets-whole}
 use Rattle.routelog.specs.declared.EntryWritten.{EntryWritten}
 use Rattle.routelog.specs.declared.EntryWritten.the-variants.{Length}
-use Rattle.routelog.specs.Entry.{Entry, entryBytes, canBeLogged, stepsIn, allDirections}
+use Rattle.routelog.specs.Entry.{Entry, entryBytes, greatestLength, canBeLogged, stepsIn, allDirections}
 use Rattle.routelog.specs.Writing.{partLines, writeLines, IsWritten}
 use Rattle.routelog.proofs.Answers.{steps-few}
 
@@ -49,7 +49,7 @@ parts-known a ds e =
     let both = T-and right (allDirections ds) (T-not-not (right && allDirections ds) (none .1 .0)) in
     record { logged = T-not-not (canBeLogged a) (none .0); count = eqb→eq (length ds) (stepsIn a) (both .0); directions = both .1 }
 
-pub directions-few : {a ds : List ℕ} → PartsPass a ds → length ds ≤ 4095
+pub directions-few : {a ds : List ℕ} → PartsPass a ds → length ds ≤ greatestLength
 directions-few {a} p = omega (arith, p .count, steps-few a (p .logged))
 
 module _ (e : Entry) (room : List ℕ) where

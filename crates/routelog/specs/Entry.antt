@@ -31,14 +31,20 @@ routeBytes ds = ds ++ replicate (routeSize (length ds) - length ds) filler
 unfoldable pub entryBytes : Entry → List ℕ
 entryBytes e = e .question ++ e .answer ++ routeBytes (e .route)
 
+abbrev pub greatestRefusal : ℕ
+greatestRefusal = 15
+
+abbrev pub greatestLength : ℕ
+greatestLength = 4095
+
 -- a refusal number from 1 to 15
 abbrev pub refusalFits : ℕ → Bool
-refusalFits n = ltb 0 n && leb n 15
+refusalFits n = ltb 0 n && leb n greatestRefusal
 
 -- kind 1 with a cost that isn't MARK and a length up to 4,095, kind 2 with MARK and length 0, or kind 3 with a floor that isn't MARK and length 0
 unfoldable pub kindFits : ℕ → ℕ → ℕ → Bool
 kindFits kind number length =
-    cond (eqb kind 1) (not (eqb number MARK) && leb length 4095)
+    cond (eqb kind 1) (not (eqb number MARK) && leb length greatestLength)
     (cond (eqb kind 2) (eqb number MARK && eqb length 0)
     (cond (eqb kind 3) (not (eqb number MARK) && eqb length 0) false))
 

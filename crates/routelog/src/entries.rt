@@ -3,7 +3,7 @@ ghost use mathlib.Core.Path.{_≡_};
 ghost use Prim.Native.Nat.{_≤_};
 ghost use lib.ListN.{length};
 ghost use Rattle.recordlayout.specs.Record.{recordSize};
-ghost use Rattle.routelog.specs.Entry.{routeSize, kindFits, canBeLogged, allWithin};
+ghost use Rattle.routelog.specs.Entry.{greatestLength, routeSize, kindFits, canBeLogged, allWithin};
 use floor::MARK;
 use recordlayout::RECORD_SIZE;
 use recordlayout::fields::all_zero;
@@ -22,7 +22,7 @@ pub(crate) const FILLER: u8 = 255;
 
 // The bytes of as many records as hold that many directions.
 pub(crate) fn route_size(length: usize) -> usize
-    requires { ⌜ length ≤ 4095 ⌝ }
+    requires { ⌜ length ≤ greatestLength ⌝ }
     ensures { λ r. ⌜ r ≡ routeSize length ⌝ }
 {
     (length + (RECORD_SIZE - 1)) / RECORD_SIZE * RECORD_SIZE

@@ -4,6 +4,7 @@ ghost use Prim.Native.Nat.{_≤_};
 ghost use lib.ListN.{length};
 ghost use Rattle.floor.specs.Refusal.{screen};
 ghost use Rattle.floor.specs.declared.Screen.the-variants.{Passed};
+ghost use Rattle.routelog.specs.Entry.{greatestLength};
 ghost use Rattle.routelog.specs.Reading.{entryAt, routeLines, readLines, entry, noEntry, ReadAs, IsRead};
 use crate::EntryRead;
 use crate::Outcome;
@@ -19,7 +20,7 @@ use recordlayout::fields::record_at;
 
 // The refusals of a route of `length` directions that begins these bytes, for a route room of that length.
 fn judge_route(bytes: &[u8], length: usize, room: usize) -> Screen
-    requires { ⌜ length ≤ 4095 ⌝ }
+    requires { ⌜ length ≤ greatestLength ⌝ }
     ensures { λ r. ⌜ r ≡ screen (routeLines (now (bytes .entry)) length room) ⌝ }
 {
     let size = route_size(length);

@@ -5,7 +5,7 @@ ghost use lib.ListN.{length, replicate};
 ghost use Rattle.floor.specs.Refusal.{screen};
 ghost use Rattle.textlines.specs.Working.{IsPut};
 ghost use Rattle.recordlayout.specs.Record.{recordSize};
-ghost use Rattle.routelog.specs.Entry.{entryOf, routeSize, filler, routeBytes, entryBytes};
+ghost use Rattle.routelog.specs.Entry.{greatestLength, entryOf, routeSize, filler, routeBytes, entryBytes};
 ghost use Rattle.routelog.specs.Writing.{partLines, IsWritten};
 use crate::EntryWritten;
 use crate::entries::FILLER;
@@ -32,7 +32,7 @@ fn put_filler(count: usize, room: &mut [u8], at: usize) -> usize
 }
 
 fn put_route(directions: &[u8], room: &mut [u8], at: usize) -> usize
-    requires { ⌜ (length (now directions) ≤ 4095) × (at + routeSize (length (now directions)) ≤ length (now room)) ⌝ }
+    requires { ⌜ (length (now directions) ≤ greatestLength) × (at + routeSize (length (now directions)) ≤ length (now room)) ⌝ }
     ensures { λ r. ⌜ IsPut (routeBytes (now (directions .entry))) (now (room .entry)) at r (now (room .exit)) ⌝ }
 {
     let count = directions.len();
@@ -42,7 +42,7 @@ fn put_route(directions: &[u8], room: &mut [u8], at: usize) -> usize
 }
 
 fn put_entry(question: &[u8], answer: &[u8], directions: &[u8], room: &mut [u8]) -> usize
-    requires { ⌜ (length (now directions) ≤ 4095) × (length (entryBytes (entryOf (now question) (now answer) (now directions))) ≤ length (now room)) ⌝ }
+    requires { ⌜ (length (now directions) ≤ greatestLength) × (length (entryBytes (entryOf (now question) (now answer) (now directions))) ≤ length (now room)) ⌝ }
     ensures { λ r. ⌜ IsPut (entryBytes (entryOf (now (question .entry)) (now (answer .entry)) (now (directions .entry)))) (now (room .entry)) 0 r (now (room .exit)) ⌝ }
 {
     let answer_at = put(question, room, 0);

@@ -6,7 +6,7 @@ use native.Mathlib.Omega.{arith}
 use lib.ListN.{length, length-drop}
 use Rattle.search.specs.declared.AnswerNumbers.{AnswerNumbers}
 use Rattle.recordlayout.specs.Record.{answerIn}
-use Rattle.routelog.specs.Entry.{stepsIn}
+use Rattle.routelog.specs.Entry.{greatestLength, stepsIn}
 use Rattle.routelog.specs.Reading.{answerAt}
 use Rattle.routelog.proofs.Answers.{steps-few}
 use Rattle.routelog.proofs.Passing.{Passes, passes, steps-there}
@@ -25,7 +25,7 @@ start c = c .before .before .before .before .before .before
 steps : (c : tie.After-numbers-in) → c .numbers-in .result .length ≡ stepsIn (answerAt (start c .args .rest .now))
 steps c = ap (λ (n : AnswerNumbers). n .length) (c .numbers-in .ensures ∙ ap answerIn (c .before .before .record-at2 .ensures))
 
-few : (c : tie.After-numbers-in) → c .numbers-in .result .length ≤ 4095
+few : (c : tie.After-numbers-in) → c .numbers-in .result .length ≤ greatestLength
 few c = omega (arith, steps c, steps-few _ (known (start c) .logged))
 
 within : (c : tie.After-numbers-in) → 32 + c .numbers-in .result .length ≤ length (start c .args .rest .now)
