@@ -12,3 +12,4 @@ pub mod Files
 pub mod Torn
 pub mod RoundTrip
 pub mod Logging
+pub mod Searches

@@ -10,3 +10,4 @@ pub mod SecondHolds
 pub mod ThirdHolds
 pub mod OneTable
 pub mod AloneHolds
+pub mod Logged
