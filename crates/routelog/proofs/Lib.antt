@@ -13,3 +13,4 @@ pub mod Torn
 pub mod RoundTrip
 pub mod Logging
 pub mod Searches
+pub mod Refusals

@@ -39,7 +39,7 @@ wrote e room room′ n w = go (screen (partLines (e .answer) (e .route))) refl (
         let size : n ≡ length (entryBytes e) = cc in
         record { passed = x; size = size; bytes = rw (l, size) (take-append-seam (entryBytes e) (drop (length (entryBytes e)) room)) }
     go Passed x (Refused k p) y a l = let z : _≡_ {A = ℕ} 0 1 = cc in absurd (omega arith)
-    go (Refused k p) x t y a l = let v = sym y ∙ after-parts e room x in let z : _≡_ {A = ℕ} 0 1 = cc in absurd (omega arith)
+    go (Refused k p) x t y a l = let v = sym y ∙ after-parts e (length room) x in let z : _≡_ {A = ℕ} 0 1 = cc in absurd (omega arith)
 
 -- an entry that was written is one: its records are whole by their types
 pub wrote-entry : {e : Entry} {room′ : List ℕ} {n : ℕ} → length (e .question) ≡ recordSize → length (e .answer) ≡ recordSize → Wrote e room′ n → IsEntry e
@@ -61,7 +61,7 @@ reads-back e room room′ more route route′ n r q a w x fits =
 entry-passes : (e : Entry) (room : List ℕ) → IsEntry e → length (entryBytes e) ≤ length room → screen (writeLines e (length room)) ≡ Passed
 entry-passes e room k enough =
     let parts = parts-pass (e .answer) (e .route) (T-true (canBeLogged (e .answer)) (k .answer-fits)) (k .count) (T-true (allDirections (e .route)) (k .directions)) in
-    room-enough e room parts enough
+    room-enough e (length room) parts enough
 
 -- an entry is written whole where it can be
 pub entry-written : (e : Entry) (room room′ : List ℕ) (s : EntryWritten) → IsEntry e → length (entryBytes e) ≤ length room → IsWritten e room s room′

@@ -52,27 +52,31 @@ parts-known a ds e =
 pub directions-few : {a ds : List ℕ} → PartsPass a ds → length ds ≤ greatestLength
 directions-few {a} p = omega (arith, p .count, steps-few a (p .logged))
 
-module _ (e : Entry) (room : List ℕ) where
+-- the room's line comes after those of answer and directions
+module _ (e : Entry) (size : ℕ) where
   abbrev roomLine : Line
-  roomLine = line 64 (ltb (length room) (length (entryBytes e))) 0
+  roomLine = line 64 (ltb size (length (entryBytes e))) 0
 
-  pub after-parts : {s : Screen} → screen (partLines (e .answer) (e .route)) ≡ s → screen (writeLines e (length room)) ≡ andThen s (screen (roomLine ∷ []))
+  pub after-parts : {s : Screen} → screen (partLines (e .answer) (e .route)) ≡ s → screen (writeLines e size) ≡ andThen s (screen (roomLine ∷ []))
   after-parts x = screen-append (partLines (e .answer) (e .route)) (roomLine ∷ []) ∙ ap (λ (s : Screen). andThen s (screen (roomLine ∷ []))) x
 
+  module _ (passed : screen (partLines (e .answer) (e .route)) ≡ Passed) where
+    pub room-short : size < length (entryBytes e) → screen (writeLines e size) ≡ Refused 64 0
+    room-short h = after-parts passed ∙ rw (lt-ltb size (length (entryBytes e)) h)
+
+    pub room-enough : length (entryBytes e) ≤ size → screen (writeLines e size) ≡ Passed
+    room-enough h = after-parts passed ∙ rw (le-ltb size (length (entryBytes e)) h)
+
+module _ (e : Entry) (room : List ℕ) where
   pub written-refused : {n p : ℕ} → screen (partLines (e .answer) (e .route)) ≡ Refused n p → IsWritten e room (EntryWritten.Refused n p) room
-  written-refused x = record { answers = rw (after-parts x); leaves = rw (after-parts x) }
+  written-refused x = let y = after-parts e (length room) x in record { answers = rw y; leaves = rw y }
 
   module _ (passed : screen (partLines (e .answer) (e .route)) ≡ Passed) where
     pub written-short : length room < length (entryBytes e) → IsWritten e room (EntryWritten.Refused 64 0) room
-    written-short h =
-        let x : screen (writeLines e (length room)) ≡ Refused 64 0 = after-parts passed ∙ rw (lt-ltb (length room) (length (entryBytes e)) h) in
-        record { answers = rw x; leaves = rw x }
-
-    pub room-enough : length (entryBytes e) ≤ length room → screen (writeLines e (length room)) ≡ Passed
-    room-enough h = after-parts passed ∙ rw (le-ltb (length room) (length (entryBytes e)) h)
+    written-short h = let x = room-short e (length room) passed h in record { answers = rw x; leaves = rw x }
 
     pub written-whole : {r : ℕ} {room′ : List ℕ} → length (entryBytes e) ≤ length room → IsPut (entryBytes e) room 0 r room′ → IsWritten e room (Length r) room′
     written-whole {r} h p =
-        let x = room-enough h in
+        let x = room-enough e (length room) passed h in
         let size : r ≡ length (entryBytes e) = omega (arith, p .next) in
         record { answers = rw (x, size); leaves = rw x (p .leaves ∙ sets-whole (entryBytes e) room h) }

@@ -2,3 +2,4 @@ pub mod Entry
 pub mod Reading
 pub mod Writing
 pub mod File
+pub mod Refusals
