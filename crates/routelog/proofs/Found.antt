@@ -1,18 +1,18 @@
 -- An entry that was read stands, byte for byte, at the beginning of what was read, and can stand in a log.
-use mathlib.Core.Path.{_≡_, refl, sym, ap, _∙_}
+use mathlib.Core.Path.{_≡_, refl, sym, _∙_}
 use mathlib.Core.Bool.{Bool, true, false, cond}
-use mathlib.Core.List.{List, [], _∷_, _++_, append-assoc}
+use mathlib.Core.List.{List, [], _∷_, _++_}
 use Prim.Native.Nat.{ℕ, _+_, _-_, _≤_}
 use native.Mathlib.Omega.{arith}
 use lib.Dec.{eqb}
 use lib.ListN.{length, take, drop, take-append-drop, length-drop}
-use lib.Seq.{take-add, drop-drop, length-take-le}
+use lib.Seq.{take-add, length-take-le}
 use Rattle.floor.specs.declared.Screen.{Screen}
 use Rattle.floor.specs.declared.Screen.the-variants.{Passed, Refused}
 use Rattle.floor.specs.Refusal.{screen}
 use Rattle.recordlayout.specs.Record.{recordSize}
 use Rattle.routelog.specs.Entry.{Entry, routeSize, filler, routeBytes, entryBytes, stepsIn, IsEntry}
-use Rattle.routelog.specs.Reading.{questionAt, answerAt, routeAt, entryAt, readLines, Reading, empty, refused, entry, afterLines, readingOf}
+use Rattle.routelog.specs.Reading.{answerAt, routeAt, entryAt, readLines, empty, entry, afterLines, readingOf}
 use Rattle.routelog.proofs.Sizes.{size-holds}
 use Rattle.routelog.proofs.Passing.{Passes, passes, question-length, answer-length, steps-there, bytes-taken}
 use Rattle.routelog.proofs.Taking.{reading-judged}

@@ -1,5 +1,5 @@
 -- The reader's three answers: the rest of the file is empty, it is refused, or it begins with an entry.
-use mathlib.Core.Path.{_≡_, refl, sym, ap, _∙_}
+use mathlib.Core.Path.{_≡_, refl, ap, _∙_}
 use mathlib.Core.Logic.{_≢_}
 use mathlib.Core.List.{List, _++_}
 use Prim.Native.Nat.{ℕ, _+_, _-_}
@@ -15,7 +15,7 @@ use Rattle.routelog.specs.declared.Outcome.{Outcome}
 use Rattle.routelog.specs.declared.Outcome.the-variants.{Empty, Logged}
 use Rattle.routelog.specs.declared.EntryRead.{EntryRead}
 use Rattle.routelog.specs.Entry.{routeSize, stepsIn}
-use Rattle.routelog.specs.Reading.{questionAt, answerAt, routeAt, entryAt, readLines, Reading, empty, refused, entry, afterLines, readingOf, noEntry, ReadAs, IsRead}
+use Rattle.routelog.specs.Reading.{questionAt, answerAt, routeAt, entryAt, readLines, empty, refused, entry, afterLines, readingOf, noEntry, ReadAs, IsRead}
 use Rattle.routelog.proofs.Passing.{Passes, steps-there, bytes-taken}
 
 module _ (rest : List ℕ) (room : ℕ) where

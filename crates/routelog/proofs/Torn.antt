@@ -1,16 +1,15 @@
 -- A file that is cut: the entries before the cut are read, and what is left of the next is refused as 61, since the end of the file is met first.
-use mathlib.Core.Path.{_≡_, refl, sym, ap, _∙_}
-use mathlib.Core.Bool.{Bool, true, cond}
+use mathlib.Core.Path.{_≡_, sym, ap, _∙_}
+use mathlib.Core.Bool.{true}
 use mathlib.Core.List.{List, [], _∷_, _++_, append-assoc}
 use Prim.Native.Nat.{ℕ, _+_, _-_, _≤_, _<_}
 use native.Mathlib.Decide.{decLt, decLe, ℕ-discrete}
 use native.Mathlib.Omega.{arith}
-use borrow.Author.Tests.{eq-eqb, ne-eqb, le-leb, lt-leb}
+use borrow.Author.Tests.{ne-eqb, le-leb, lt-leb}
 use lib.Dec.{eqb, eqb→eq}
 use lib.ListN.{length, take, drop, length-append}
-use lib.Seq.{take-nil, take-append-add, take-append-le, drop-append-seam, length-take-le}
+use lib.Seq.{take-append-add, take-append-le, drop-append-seam, length-take-le}
 use Rattle.paths.proofs.Bools.{T-true, eq-T, same-test}
-use Rattle.floor.specs.declared.Screen.the-variants.{Passed, Refused}
 use Rattle.recordlayout.specs.Record.{recordSize}
 use Rattle.routelog.specs.Entry.{Entry, routeSize, routeBytes, entryBytes, canBeLogged, stepsIn, IsEntry}
 use Rattle.routelog.specs.Reading.{refused, readingOf}

@@ -1,7 +1,7 @@
 -- The rest of the file has passed, so that the records and the route are there and the route has room; what is copied is the entry.
 use Prim.Native.Nat.{_+_, _-_, _≤_}
 use Rattle.routelog.proofs.Sizes.{size-holds}
-use mathlib.Core.Path.{_≡_, sym, ap, _∙_}
+use mathlib.Core.Path.{_≡_, ap, _∙_}
 use native.Mathlib.Omega.{arith}
 use lib.ListN.{length, length-drop}
 use Rattle.search.specs.declared.AnswerNumbers.{AnswerNumbers}

@@ -1,6 +1,6 @@
 -- The invariant: the first i bytes of filler have been put. The measure is how many are left.
 use mathlib.Core.Path.{_≡_, sym}
-use Prim.Native.Nat.{ℕ, _-_, _≤_}
+use Prim.Native.Nat.{_-_}
 use native.Mathlib.Omega.{arith}
 use lib.ListN.{length, replicate, length-replicate, getD-replicate}
 use Rattle.textlines.proofs.Rooms.{Putting, putting-none, putting-next, putting-all}
