@@ -1,19 +1,19 @@
 -- Which answers can be logged, test by test, in the order in which the code tries them.
-use mathlib.Core.Path.{_≡_, sym, _∙_}
-use mathlib.Core.Logic.{_≢_}
+use mathlib.Core.Path.{_≡_, refl, sym, _∙_}
+use mathlib.Core.Logic.{_≢_, _⊎_, inl, inr, ⊎-elim}
 use mathlib.Core.Bool.{Bool, true, false, cond, not, _&&_}
 use mathlib.Core.List.{List}
 use Prim.Native.Nat.{ℕ, _+_, _≤_, _<_}
 use native.Mathlib.Omega.{arith}
-use borrow.Author.Tests.{ne-eqb, lt-ltb, le-leb, lt-leb}
+use borrow.Author.Tests.{eqb-true, ne-eqb, lt-ltb, le-leb, lt-leb}
 use lib.Dec.{T, eqb, leb, leb→le, eqb→eq}
 use lib.ListN.{getD, take, drop}
 use lib.Seq.{getD-drop}
 use Rattle.paths.specs.Graph.{MARK}
 use Rattle.paths.proofs.Bools.{T-and}
+use Rattle.search.specs.declared.AnswerNumbers.{AnswerNumbers}
 use Rattle.recordlayout.specs.Record.{numberAt, allZero, answerIn}
 use Rattle.recordlayout.proofs.Zeros.{zero-at}
-use Rattle.search.specs.declared.AnswerNumbers.{AnswerNumbers}
 use Rattle.routelog.specs.Entry.{greatestRefusal, greatestLength, refusalFits, kindFits, canBeLogged, stepsIn}
 
 module _ (a : List ℕ) {n : AnswerNumbers} (read : n ≡ answerIn a) where
@@ -49,31 +49,41 @@ module _ (a : List ℕ) {n : AnswerNumbers} (read : n ≡ answerIn a) where
     unfolding canBeLogged
     by-kind e = rw (ne-eqb (answerIn a .kind) 0 other-kind, e, ← read)
 
--- an answer that can be logged has no more than 4,095 directions: those of kind 1 say so, and all others have none
-pub steps-few : (a : List ℕ) → T (canBeLogged a) → stepsIn a ≤ greatestLength
+-- how many directions an answer that can be logged has: up to 4,095 if it is found, and none otherwise
+pub steps-of : (a : List ℕ) → T (canBeLogged a) → ((answerIn a .kind ≡ 1) × (stepsIn a ≤ greatestLength)) ⊎ (stepsIn a ≡ 0)
 unfolding canBeLogged kindFits answerIn
-steps-few a = go (eqb (getD a 0 0) 0) (eqb (getD a 0 0) 1) (eqb (getD a 0 0) 2) (eqb (getD a 0 0) 3)
+steps-of a = go (eqb kind 0) (eqb kind 1) refl (eqb kind 2) (eqb kind 3)
   where
+    kind : ℕ
+    kind = getD a 0 0
+
     none : (i : ℕ) → T (allZero (drop 2 a)) → getD a (2 + i) 0 ≡ 0
     none i z = sym (getD-drop 2 a i 0) ∙ zero-at (drop 2 a) i z
 
-    go : (k₀ k₁ k₂ k₃ : Bool)
+    go : (k₀ k₁ : Bool) → eqb kind 1 ≡ k₁ → (k₂ k₃ : Bool)
         → T
         (cond k₀ (refusalFits (getD a 1 0) && allZero (drop 2 a))
         (allZero (take 3 (drop 1 a))
         && cond k₁ (not (eqb (numberAt a 8) MARK) && leb (numberAt a 12) greatestLength)
         (cond k₂ (eqb (numberAt a 8) MARK && eqb (numberAt a 12) 0) (cond k₃ (not (eqb (numberAt a 8) MARK) && eqb (numberAt a 12) 0) false))))
-        → numberAt a 12 ≤ greatestLength
-    go true k₁ k₂ k₃ t =
+        → ((kind ≡ 1) × (numberAt a 12 ≤ greatestLength)) ⊎ (numberAt a 12 ≡ 0)
+    go true k₁ e k₂ k₃ t =
         let z = T-and (refusalFits (getD a 1 0)) (allZero (drop 2 a)) t .1 in
-        omega (arith, none 10 z, none 11 z, none 12 z, none 13 z)
-    go false true k₂ k₃ t =
+        inr (omega (arith, none 10 z, none 11 z, none 12 z, none 13 z))
+    go false true e k₂ k₃ t =
         let few = T-and (allZero (take 3 (drop 1 a))) _ t .1 in
-        leb→le (numberAt a 12) greatestLength (T-and (not (eqb (numberAt a 8) MARK)) (leb (numberAt a 12) greatestLength) few .1)
-    go false false true k₃ t =
+        inl (eqb-true kind 1 e, leb→le (numberAt a 12) greatestLength (T-and (not (eqb (numberAt a 8) MARK)) (leb (numberAt a 12) greatestLength) few .1))
+    go false false e true k₃ t =
         let few = T-and (allZero (take 3 (drop 1 a))) _ t .1 in
-        omega (arith, eqb→eq (numberAt a 12) 0 (T-and (eqb (numberAt a 8) MARK) (eqb (numberAt a 12) 0) few .1))
-    go false false false true t =
+        inr (eqb→eq (numberAt a 12) 0 (T-and (eqb (numberAt a 8) MARK) (eqb (numberAt a 12) 0) few .1))
+    go false false e false true t =
         let few = T-and (allZero (take 3 (drop 1 a))) _ t .1 in
-        omega (arith, eqb→eq (numberAt a 12) 0 (T-and (not (eqb (numberAt a 8) MARK)) (eqb (numberAt a 12) 0) few .1))
-    go false false false false t = absurd (T-and (allZero (take 3 (drop 1 a))) false t .1)
+        inr (eqb→eq (numberAt a 12) 0 (T-and (not (eqb (numberAt a 8) MARK)) (eqb (numberAt a 12) 0) few .1))
+    go false false e false false t = absurd (T-and (allZero (take 3 (drop 1 a))) false t .1)
+
+pub steps-few : (a : List ℕ) → T (canBeLogged a) → stepsIn a ≤ greatestLength
+steps-few a t = ⊎-elim (λ found. found .1) (λ none. omega arith) (steps-of a t)
+
+-- any count of directions but 0 is wrong if the answer is not found
+pub no-steps : (a : List ℕ) → T (canBeLogged a) → answerIn a .kind ≢ 1 → stepsIn a ≡ 0
+no-steps a t other = ⊎-elim (λ found. absurd (other (found .0))) (λ none. none) (steps-of a t)

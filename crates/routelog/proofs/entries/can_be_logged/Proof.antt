@@ -1,9 +1,10 @@
 -- Each return is one of the tests of `canBeLogged`, with those before it passed.
-use borrow.Rule.Slice.PartAt.{part-to-end}
 use mathlib.Core.Path.{sym, ap, _∙_}
+use native.Mathlib.Omega.{arith}
+use borrow.Rule.Slice.PartAt.{part-to-end}
+use borrow.Author.Needs.{needs}
 use Rattle.recordlayout.specs.Record.{allZero}
 use Rattle.routelog.proofs.Answers.{no-refusal, greater-refusal, zeros-after, no-zeros, by-kind}
-use borrow.Author.Needs.{needs}
 use Rattle.routelog.proofs.entries.can_be_logged.Statement.{statement}
 use Rattle.routelog.proofs.entries.can_be_logged.Tie as tie
 
@@ -14,7 +15,7 @@ returns : tie.Need-returns
 returns c = sym (no-refusal _ (c .before .before .before .before .numbers-in .ensures) (c .before .before .if1 .taken) (c .if2 .taken))
 
 returns-2 : tie.Need-returns-2
-returns-2 c = sym (greater-refusal _ (c .before .before .before .before .before .before .numbers-in .ensures) (c .before .before .before .before .if1 .taken) (c .if3 .taken))
+returns-2 c = sym (greater-refusal _ (c .before .before .before .before .before .before .numbers-in .ensures) (c .before .before .before .before .if1 .taken) (omega (arith, c .if3 .taken)))
 
 sub-all-zero : tie.Need-sub-all-zero
 sub-all-zero c = search needs
@@ -31,7 +32,7 @@ all-zero-requires c κs = search needs
 returns-3 : tie.Need-returns-3
 returns-3 c =
     let zeros = c .all-zero .ensures ∙ ap allZero (part-to-end (c .before .before .before .before .before .before .before .before .before .before .args .answer .now) 2) in
-    zeros ∙ sym (zeros-after _ (c .before .before .before .before .before .before .before .before .numbers-in .ensures) (c .before .before .before .before .before .before .if1 .taken) (c .before .before .before .before .if2 .left) (c .before .before .if3 .left))
+    zeros ∙ sym (zeros-after _ (c .before .before .before .before .before .before .before .before .numbers-in .ensures) (c .before .before .before .before .before .before .if1 .taken) (c .before .before .before .before .if2 .left) (omega (arith, c .before .before .if3 .left)))
 
 sub-all-zero-2 : tie.Need-sub-all-zero-2
 sub-all-zero-2 c = search needs

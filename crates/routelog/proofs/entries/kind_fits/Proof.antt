@@ -1,7 +1,7 @@
 -- Each return decides the tests of `kindFits`: the kind that was found, and then its number.
 use borrow.Author.Tests.{ne-eqb}
-use Rattle.routelog.specs.Entry.{kindFits}
 use borrow.Author.Needs.{needs}
+use Rattle.routelog.specs.Entry.{kindFits}
 use Rattle.routelog.proofs.entries.kind_fits.Statement.{statement}
 use Rattle.routelog.proofs.entries.kind_fits.Tie as tie
 

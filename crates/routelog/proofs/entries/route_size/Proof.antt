@@ -1,7 +1,7 @@
 -- The code is the definition; nothing wraps, since a route is short.
 use mathlib.Core.Path.{refl}
-use Rattle.routelog.specs.Entry.{routeSize}
 use borrow.Author.Needs.{needs}
+use Rattle.routelog.specs.Entry.{routeSize}
 use Rattle.routelog.proofs.entries.route_size.Statement.{statement}
 use Rattle.routelog.proofs.entries.route_size.Tie as tie
 

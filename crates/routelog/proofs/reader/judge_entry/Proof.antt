@@ -1,17 +1,17 @@
 -- The lines of question and answer are tried here, and those of the route by `judge_route`.
-use Rattle.search.specs.declared.AnswerNumbers.{AnswerNumbers}
-use Prim.Native.Nat.{_+_}
-use Rattle.recordlayout.specs.Record.{recordSize, answerIn}
 use mathlib.Core.Path.{_≡_, sym, ap, _∙_}
 use mathlib.Core.Bool.{true}
+use Prim.Native.Nat.{_+_}
 use native.Mathlib.Omega.{arith}
 use borrow.Rule.Slice.PartAt.{part-to-end}
+use borrow.Author.Needs.{needs}
 use Rattle.paths.proofs.Bools.{true-T}
+use Rattle.search.specs.declared.AnswerNumbers.{AnswerNumbers}
+use Rattle.recordlayout.specs.Record.{recordSize, answerIn}
 use Rattle.routelog.specs.Entry.{canBeLogged, stepsIn}
 use Rattle.routelog.specs.Reading.{answerAt}
 use Rattle.routelog.proofs.Answers.{steps-few}
 use Rattle.routelog.proofs.Judging.{head-ends, wrong-answer, by-route}
-use borrow.Author.Needs.{needs}
 use Rattle.routelog.proofs.reader.judge_entry.Statement.{statement}
 use Rattle.routelog.proofs.reader.judge_entry.Tie as tie
 

@@ -1,13 +1,13 @@
 -- Each return is one of the lines of a route, with those before it passed.
 use mathlib.Core.Bool.{true}
+use mathlib.Core.Path.{_≡_, sym, ap, _∙_}
 use Prim.Native.Nat.{ℕ, _-_, _≤_}
+use native.Mathlib.Omega.{arith}
+use borrow.Author.Needs.{needs}
 use lib.ListN.{length, take, drop}
 use Rattle.routelog.specs.Entry.{routeSize, allDirections, allFiller}
-use mathlib.Core.Path.{_≡_, sym, ap, _∙_}
-use native.Mathlib.Omega.{arith}
 use Rattle.routelog.proofs.Sizes.{size-holds}
 use Rattle.routelog.proofs.Judging.{route-ends, wrong-direction, wrong-filler, room-short, route-passes}
-use borrow.Author.Needs.{needs}
 use Rattle.routelog.proofs.reader.judge_route.Statement.{statement}
 use Rattle.routelog.proofs.reader.judge_route.Tie as tie
 

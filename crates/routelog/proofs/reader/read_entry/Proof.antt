@@ -1,7 +1,7 @@
 -- Each return gives one of the reader's three answers.
 use mathlib.Core.Path.{sym, _∙_}
-use Rattle.routelog.proofs.Taking.{read-empty, read-refused, read-logged}
 use borrow.Author.Needs.{needs}
+use Rattle.routelog.proofs.Taking.{read-empty, read-refused, read-logged}
 use Rattle.routelog.proofs.reader.read_entry.Statement.{statement}
 use Rattle.routelog.proofs.reader.read_entry.Tie as tie
 

@@ -1,17 +1,17 @@
 -- The rest of the file has passed, so that the records and the route are there and the route has room; what is copied is the entry.
-use Prim.Native.Nat.{_+_, _-_, _≤_}
-use Rattle.routelog.proofs.Sizes.{size-holds}
 use mathlib.Core.Path.{_≡_, ap, _∙_}
+use Prim.Native.Nat.{_+_, _-_, _≤_}
 use native.Mathlib.Omega.{arith}
+use borrow.Author.Needs.{needs}
 use lib.ListN.{length, length-drop}
 use Rattle.search.specs.declared.AnswerNumbers.{AnswerNumbers}
-use Rattle.recordlayout.specs.Record.{answerIn}
+use Rattle.recordlayout.specs.Record.{recordSize, answerIn}
 use Rattle.routelog.specs.Entry.{greatestLength, stepsIn}
 use Rattle.routelog.specs.Reading.{answerAt}
+use Rattle.routelog.proofs.Sizes.{size-holds}
 use Rattle.routelog.proofs.Answers.{steps-few}
 use Rattle.routelog.proofs.Passing.{Passes, passes, steps-there}
 use Rattle.routelog.proofs.Taking.{taken}
-use borrow.Author.Needs.{needs}
 use Rattle.routelog.proofs.reader.take_entry.Statement.{statement}
 use Rattle.routelog.proofs.reader.take_entry.Tie as tie
 
@@ -28,10 +28,10 @@ steps c = ap (λ (n : AnswerNumbers). n .length) (c .numbers-in .ensures ∙ ap 
 few : (c : tie.After-numbers-in) → c .numbers-in .result .length ≤ greatestLength
 few c = omega (arith, steps c, steps-few _ (known (start c) .logged))
 
-within : (c : tie.After-numbers-in) → 32 + c .numbers-in .result .length ≤ length (start c .args .rest .now)
+within : (c : tie.After-numbers-in) → recordSize + recordSize + c .numbers-in .result .length ≤ length (start c .args .rest .now)
 within c =
     let k = known (start c) in
-    omega (arith, steps c, size-holds (stepsIn (answerAt (start c .args .rest .now))), k .route-long, k .head-long, length-drop 32 (start c .args .rest .now))
+    omega (arith, steps c, size-holds (stepsIn (answerAt (start c .args .rest .now))), k .route-long, k .head-long, length-drop (recordSize + recordSize) (start c .args .rest .now))
 
 record-at-requires : tie.Need-record-at-requires
 record-at-requires c κs = omega (arith, known (c .before .before))
@@ -63,7 +63,7 @@ part-copy-end c = omega (arith, within c)
 copy-requires : tie.Need-copy-requires
 copy-requires c κs =
     let k = known (c .before .before .before .before .before .before .before .before) in
-    let count : 32 + c .before .before .numbers-in .result .length - 32 ≡ stepsIn (answerAt (c .before .before .before .before .before .before .before .before .args .rest .now)) = omega (arith, steps (c .before .before)) in
+    let count : recordSize + recordSize + c .before .before .numbers-in .result .length - (recordSize + recordSize) ≡ stepsIn (answerAt (c .before .before .before .before .before .before .before .before .args .rest .now)) = omega (arith, steps (c .before .before)) in
     rw count (omega (arith, steps-there k, k .room-long))
 
 route-size-requires : tie.Need-route-size-requires

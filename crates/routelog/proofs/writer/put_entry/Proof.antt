@@ -1,11 +1,11 @@
 -- Question, answer and route are put one after the other.
 use Prim.Native.Nat.{_+_, _≤_}
-use lib.ListN.{length}
 use native.Mathlib.Omega.{arith}
+use borrow.Author.Needs.{needs}
+use lib.ListN.{length}
 use Rattle.textlines.proofs.Rooms.{put-both}
 use Rattle.routelog.specs.Entry.{entryOf, routeSize, entryBytes}
 use Rattle.routelog.proofs.Sizes.{entry-length}
-use borrow.Author.Needs.{needs}
 use Rattle.routelog.proofs.writer.put_entry.Statement.{statement}
 use Rattle.routelog.proofs.writer.put_entry.Tie as tie
 

@@ -1,10 +1,10 @@
 -- The directions and the filler are put one after the other.
 use native.Mathlib.Omega.{arith}
+use borrow.Author.Needs.{needs}
 use lib.ListN.{length}
 use Rattle.textlines.proofs.Rooms.{put-both}
 use Rattle.routelog.specs.Entry.{routeBytes}
 use Rattle.routelog.proofs.Sizes.{size-holds}
-use borrow.Author.Needs.{needs}
 use Rattle.routelog.proofs.writer.put_route.Statement.{statement}
 use Rattle.routelog.proofs.writer.put_route.Tie as tie
 

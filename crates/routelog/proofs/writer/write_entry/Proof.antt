@@ -1,16 +1,16 @@
 -- Each return gives one of the writer's three answers. Answer and directions have passed where the others are given, and the entry is as long as was tested.
-use Prim.Native.Nat.{_+_}
-use Rattle.recordlayout.specs.Record.{recordSize}
 use mathlib.Core.Path.{_≡_, sym, _∙_}
+use Prim.Native.Nat.{_+_}
 use native.Mathlib.Omega.{arith}
+use borrow.Author.Needs.{needs}
 use lib.ListN.{length}
 use Rattle.floor.specs.declared.Screen.the-variants.{Passed}
 use Rattle.floor.specs.Refusal.{screen}
+use Rattle.recordlayout.specs.Record.{recordSize}
 use Rattle.routelog.specs.Entry.{entryOf, entryBytes}
 use Rattle.routelog.specs.Writing.{partLines}
 use Rattle.routelog.proofs.Sizes.{size-holds, entry-length}
 use Rattle.routelog.proofs.Writing.{PartsPass, parts-known, directions-few, written-refused, written-short, written-whole}
-use borrow.Author.Needs.{needs}
 use Rattle.routelog.proofs.writer.write_entry.Statement.{statement}
 use Rattle.routelog.proofs.writer.write_entry.Tie as tie
 
