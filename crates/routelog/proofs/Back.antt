@@ -10,8 +10,9 @@ use lib.ListN.{length, take, drop, replicate, length-append, length-replicate}
 use lib.Seq.{take-at, drop-at, drop-drop}
 use Rattle.paths.proofs.Bools.{T-and}
 use Rattle.recordlayout.specs.Record.{recordSize}
-use Rattle.routelog.specs.Entry.{Entry, entryOf, routeSize, filler, routeBytes, entryBytes, stepsIn, allFiller, IsEntry}
+use Rattle.routelog.specs.Entry.{Entry, entryOf, routeSize, filler, routeBytes, entryBytes, greatestLength, stepsIn, allFiller, IsEntry}
 use Rattle.routelog.specs.Reading.{questionAt, answerAt, routeAt, entryAt, entry, readingOf}
+use Rattle.routelog.proofs.Answers.{steps-few}
 use Rattle.routelog.proofs.Sizes.{size-holds}
 use Rattle.routelog.proofs.Passing.{Passes, pass}
 use Rattle.routelog.proofs.Taking.{reading-judged}
@@ -41,6 +42,10 @@ all-filler (b ∷ bs) t =
 
 pub same-entry : {q q′ a a′ ds ds′ : List ℕ} → q ≡ q′ → a ≡ a′ → ds ≡ ds′ → entryOf q a ds ≡ entryOf q′ a′ ds′
 same-entry q a ds = rw (q, a, ds)
+
+-- a room of 4,095 holds the route of every entry
+pub entry-few : {e : Entry} → IsEntry e → length (e .route) ≤ greatestLength
+entry-few {e} k = omega (arith, k .count, steps-few (e .answer) (k .answer-fits))
 
 abbrev pub fillerAfter : List ℕ → List ℕ
 fillerAfter ds = replicate (routeSize (length ds) - length ds) filler
