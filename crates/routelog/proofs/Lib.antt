@@ -14,3 +14,4 @@ pub mod RoundTrip
 pub mod Logging
 pub mod Searches
 pub mod Refusals
+pub mod Calls

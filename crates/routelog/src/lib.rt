@@ -5,8 +5,10 @@ mod entries; // entries.rt: what the reader and the writer ask of an entry
 mod reader; // reader.rt: one entry from the rest of a file
 mod writer; // writer.rt: one entry into a room
 
+pub use reader::fradnumber_read_entry;
 pub use reader::read_entry;
 use recordlayout::RECORD_SIZE;
+pub use writer::fradnumber_write_entry;
 pub use writer::write_entry;
 
 // What the rest of a file begins with: nothing, if it is empty; a refusal's number and place; or an entry, with the route's length and how many
@@ -28,4 +30,22 @@ pub struct EntryRead {
 pub enum EntryWritten {
     Length(usize),
     Refused(u32, usize),
+}
+
+// The answers in numbers, for callers from C: `entryNumbers` and `writtenNumbers` in specs/Calls.antt.
+#[repr(C)]
+pub struct EntryNumbers {
+    pub refusal: u64,
+    pub place: u64,
+    pub length: u64,
+    pub taken: u64,
+    pub question: [u8; RECORD_SIZE],
+    pub answer: [u8; RECORD_SIZE],
+}
+
+#[repr(C)]
+pub struct EntryWrittenNumbers {
+    pub refusal: u64,
+    pub place: u64,
+    pub length: u64,
 }

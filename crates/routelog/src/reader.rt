@@ -5,7 +5,9 @@ ghost use lib.ListN.{length};
 ghost use Rattle.floor.specs.Refusal.{screen};
 ghost use Rattle.floor.specs.declared.Screen.the-variants.{Passed};
 ghost use Rattle.routelog.specs.Entry.{greatestLength};
-ghost use Rattle.routelog.specs.Reading.{entryAt, routeLines, readLines, entry, noEntry, ReadAs, IsRead};
+ghost use Rattle.routelog.specs.Reading.{entryAt, routeLines, readLines, entry, numbersOf, noEntry, ReadAs, IsRead};
+ghost use Rattle.routelog.specs.Calls.{entryNumbers, ReadCalled};
+use crate::EntryNumbers;
 use crate::EntryRead;
 use crate::Outcome;
 use crate::entries::FILLER;
@@ -98,4 +100,47 @@ pub fn read_entry(rest: &[u8], route: &mut [u8]) -> EntryRead
         Screen::Refused(number, place) => no_entry(Outcome::Refused(number, place)),
         Screen::Passed => take_entry(rest, route),
     }
+}
+
+fn entry_numbers(read: EntryRead) -> EntryNumbers
+    ensures { λ r. ⌜ r ≡ entryNumbers (numbersOf (read .outcome)) (read .question) (read .answer) ⌝ }
+{
+    let outcome = read.outcome;
+    let question = read.question;
+    let answer = read.answer;
+    match outcome {
+        Outcome::Empty => EntryNumbers {
+            refusal: 0,
+            place: 0,
+            length: 0,
+            taken: 0,
+            question,
+            answer,
+        },
+        Outcome::Refused(number, place) => EntryNumbers {
+            refusal: number as u64,
+            place: place as u64,
+            length: 0,
+            taken: 0,
+            question,
+            answer,
+        },
+        Outcome::Logged(length, taken) => EntryNumbers {
+            refusal: 0,
+            place: 0,
+            length: length as u64,
+            taken: taken as u64,
+            question,
+            answer,
+        },
+    }
+}
+
+// The reader for callers from C.
+#[no_mangle]
+pub extern "C" fn fradnumber_read_entry(rest: &[u8], route: &mut [u8]) -> EntryNumbers
+    ensures { λ r. ⌜ ReadCalled (now (rest .entry)) (now (route .entry)) r (now (route .exit)) ⌝ }
+{
+    let read = read_entry(rest, route);
+    entry_numbers(read)
 }

@@ -6,8 +6,10 @@ ghost use Rattle.floor.specs.Refusal.{screen};
 ghost use Rattle.textlines.specs.Working.{IsPut};
 ghost use Rattle.recordlayout.specs.Record.{recordSize};
 ghost use Rattle.routelog.specs.Entry.{greatestLength, entryOf, routeSize, filler, routeBytes, entryBytes};
-ghost use Rattle.routelog.specs.Writing.{partLines, IsWritten};
+ghost use Rattle.routelog.specs.Writing.{partLines, numbersOf, IsWritten};
+ghost use Rattle.routelog.specs.Calls.{writtenNumbers, WriteCalled};
 use crate::EntryWritten;
+use crate::EntryWrittenNumbers;
 use crate::entries::FILLER;
 use crate::entries::GREATEST_DIRECTION;
 use crate::entries::all_within;
@@ -89,4 +91,37 @@ pub fn write_entry(
             EntryWritten::Length(end)
         }
     }
+}
+
+fn written_numbers(written: EntryWritten) -> EntryWrittenNumbers
+    ensures { λ r. ⌜ r ≡ writtenNumbers (numbersOf written) ⌝ }
+{
+    match written {
+        EntryWritten::Length(length) => EntryWrittenNumbers {
+            refusal: 0,
+            place: 0,
+            length: length as u64,
+        },
+        EntryWritten::Refused(number, place) => EntryWrittenNumbers {
+            refusal: number as u64,
+            place: place as u64,
+            length: 0,
+        },
+    }
+}
+
+// The writer for callers from C. Each of the two records is a pointer to its bytes, with no length.
+#[no_mangle]
+pub extern "C" fn fradnumber_write_entry(
+    question: &[u8; RECORD_SIZE],
+    answer: &[u8; RECORD_SIZE],
+    directions: &[u8],
+    room: &mut [u8],
+) -> EntryWrittenNumbers
+    ensures { λ r. ⌜ WriteCalled (entryOf (now (question .entry)) (now (answer .entry)) (now (directions .entry))) (now (room .entry)) r (now (room .exit)) ⌝ }
+{
+    let asked = *question;
+    let answered = *answer;
+    let written = write_entry(asked, answered, directions, room);
+    written_numbers(written)
 }
