@@ -22,11 +22,15 @@
 //    9 answer_records          how many bytes are answers; the records are in the text room
 //   10 answer_arrived          as answer_records; so many bytes have arrived as the limit says
 //   11 keep_tail               how many bytes of the text room are kept: those from the start's number up to the goal's
+//   12 fradnumber_read_entry   kind (0 refused, 1 an entry, 2 the rest is empty), refusal, place, route length, bytes taken; the rest of the file is the text
+//                              room, and question and answer are put at the front of the map room
+//   13 fradnumber_write_entry  kind (0 refused, 1 written), refusal, place, length; question and answer are at the front of the map room, the directions
+//                              are the route room, and the entry goes to the text room
 //
 // A call from C hands on what the entry of its library answers, so that it stands here for both.
 //
-// Each reply is written before the next call is read. An unknown `what`, a room longer than the program's, more given than a room's length, and an input that
-// ends inside a call end the program.
+// Each reply is written before the next call is read. An unknown `what`, a room longer than the program's, a map room that has no place for two records where
+// they go there, more given than a room's length, and an input that ends inside a call end the program.
 mod wire; // wire.rt: numbers in bytes, rooms, replies
 
 ghost use Prim.Native.Nat.{_≤_};
@@ -46,6 +50,12 @@ use maptext::WrittenNumbers;
 use maptext::fradnumber_judge_map;
 use maptext::fradnumber_read_map;
 use maptext::fradnumber_write_map;
+use recordlayout::RECORD_SIZE;
+use recordlayout::fields::record_at;
+use routelog::EntryNumbers;
+use routelog::EntryWrittenNumbers;
+use routelog::fradnumber_read_entry;
+use routelog::fradnumber_write_entry;
 use search::AnswerNumbers;
 use search::rooms::fradnumber_search;
 use wire::adler;
@@ -214,10 +224,64 @@ fn of_six(n: AnswerNumbers) -> [u32; 6] {
     ]
 }
 
-// ---- one call after the other
+// Where nothing is refused and nothing taken, the rest of the file is empty.
+fn kind_of_entry(refusal: u64, taken: u64) -> u32 {
+    if refusal == 0 && taken == 0 {
+        return 2;
+    }
+    kind_of(refusal)
+}
+
+fn of_entry(n: EntryNumbers) -> [u32; 6] {
+    [
+        kind_of_entry(n.refusal, n.taken),
+        short(n.refusal),
+        short(n.place),
+        short(n.length),
+        short(n.taken),
+        0,
+    ]
+}
+
+fn of_entry_written(n: EntryWrittenNumbers) -> [u32; 6] {
+    [
+        kind_of(n.refusal),
+        short(n.refusal),
+        short(n.place),
+        short(n.length),
+        0,
+        0,
+    ]
+}
+
+// ---- the route log
 
 // Stands in place of a kind where there is no such entry.
 const NO_ENTRY: u32 = 4294967295;
+
+// The two records of an entry.
+const RECORDS: usize = 2 * RECORD_SIZE;
+
+fn read_entry(rest: &[u8], route: &mut [u8], records: &mut [u8]) -> [u32; 6] {
+    if records.len() < RECORDS {
+        return [NO_ENTRY, 0, 0, 0, 0, 0];
+    }
+    let read = fradnumber_read_entry(rest, route);
+    let at_answer = put_bytes(records, 0, &read.question);
+    put_bytes(records, at_answer, &read.answer);
+    of_entry(read)
+}
+
+fn write_entry(records: &[u8], directions: &[u8], room: &mut [u8]) -> [u32; 6] {
+    if records.len() < RECORDS {
+        return [NO_ENTRY, 0, 0, 0, 0, 0];
+    }
+    let question = record_at(records, 0);
+    let answer = record_at(records, RECORD_SIZE);
+    of_entry_written(fradnumber_write_entry(&question, &answer, directions, room))
+}
+
+// ---- one call after the other
 
 // Calls the entry on rooms of exactly the lengths asked for. Rooms that could not be filled, and what no entry has the number of, go one way with the rest up
 // to the reply, which is not written: each way out of a function that was lent the rooms is proved by itself.
@@ -257,6 +321,8 @@ fn ask(
         9 => of_halves(answer_records(floor, map, text, costs, work, route) as u64),
         10 => of_halves(answer_arrived(floor, map, text, long(limit), costs, work, route) as u64),
         11 => of_halves(keep_tail(text, long(start), long(goal)) as u64),
+        12 => read_entry(text, route, map),
+        13 => write_entry(map, route, text),
         _ => [NO_ENTRY, 0, 0, 0, 0, 0],
     }
 }
