@@ -5,8 +5,10 @@ use Prim.Native.Nat.{ℕ, suc, _+_, _-_, _*_, _≤_, _<_}
 use native.Mathlib.Nat.{div-add-mod'}
 use native.Mathlib.Omega.{arith}
 use lib.ListN.{length, take, drop, take-append-drop}
-use lib.Seq.{paste, length-paste, take-paste, drop-paste, drop-drop, take-length}
+use lib.Seq.{length-paste, take-paste, drop-paste, drop-drop, take-length}
 use Rattle.floor.specs.declared.Floor.{Floor}
+use Rattle.putting.specs.Put.{IsPut}
+use Rattle.putting.proofs.Puts.{put-pasted}
 use Rattle.search.specs.declared.Answer.{Answer}
 use Rattle.search.specs.Search.{Rooms}
 use Rattle.recordlayout.specs.Record.{recordSize, recordOf}
@@ -15,12 +17,12 @@ use Rattle.desk.specs.Desk.{Asked, Answered, wholeRecords, IsAnswered}
 use Rattle.desk.specs.Working.{AnsweredAt}
 
 -- the question was the part of the buffer from `at` on, and its answer has been stored there
-pub answered-at : {f : Floor} {m bytes : List ℕ} {at : ℕ} {r : Rooms} {a : Answer} {answer bytes′ : List ℕ} {r′ : Rooms}
-    → Asked f m (take (at + recordSize - at) (drop at bytes)) r a r′ → answer ≡ recordOf a → bytes′ ≡ paste bytes at answer recordSize
+pub answered-at : {f : Floor} {m bytes : List ℕ} {at next : ℕ} {r : Rooms} {a : Answer} {answer bytes′ : List ℕ} {r′ : Rooms}
+    → Asked f m (take (at + recordSize - at) (drop at bytes)) r a r′ → answer ≡ recordOf a → at + recordSize ≤ length bytes → IsPut answer bytes at next bytes′
     → AnsweredAt f m bytes at r bytes′ r′
-answered-at {at = at} {a = a} x e l =
+answered-at {at = at} {a = a} x e fits put =
     let size : at + recordSize - at ≡ recordSize = omega arith in
-    record { answer = a; asked = rw size at x; leaves = rw e at l }
+    record { answer = a; asked = rw size at x; leaves = rw e at (put-pasted put (ap length e ∙ record-length a) fits) }
 
 pub record Answering (f : Floor) (m : List ℕ) (n : ℕ) (bytes : List ℕ) (r : Rooms) (left at : ℕ) (bytes′ : List ℕ) (r′ : Rooms) : Type 0 where
   pub counted : at + left * recordSize ≡ n * recordSize

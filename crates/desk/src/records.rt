@@ -6,9 +6,9 @@ ghost use Rattle.recordlayout.specs.Record.{recordSize};
 ghost use Rattle.desk.specs.Desk.{Asked, IsAnswered};
 ghost use Rattle.desk.specs.Working.{AnsweredAt};
 use floor::Floor;
+use putting::put;
 use recordlayout::RECORD_SIZE;
 use recordlayout::answers::record_of;
-use recordlayout::answers::store;
 use recordlayout::fields::all_zero;
 use recordlayout::fields::number_at;
 use recordlayout::fields::widened;
@@ -57,7 +57,7 @@ fn answer_at(
     let end = at + RECORD_SIZE;
     let answer = ask(f, map, &records[at..end], costs, work, route);
     let record = record_of(answer);
-    store(&record, records, at);
+    put(&record, records, at);
 }
 
 // Answers every whole record of the buffer, in order, and gives the number of bytes that are answers now. A broken last record stays as it is.

@@ -8,10 +8,10 @@ use native.Mathlib.Omega.{arith}
 use lib.ListN.{length, take, drop, length-map, length-append, length-drop}
 use lib.Seq.{sets, length-sets, length-take-le, drop-drop}
 use Rattle.textlines.specs.Line.{LF}
-use Rattle.textlines.specs.Working.{IsPut}
+use Rattle.putting.specs.Put.{IsPut}
 use Rattle.maptext.specs.Text.{charOf, rows}
 use Rattle.maptext.specs.Working.{byteOf, bytesIn}
-use Rattle.textlines.proofs.Rooms.{sets-append, put-both}
+use Rattle.putting.proofs.Puts.{sets-append, put-both}
 
 one-row-less : (left k : ℕ) → 0 < left → left * k ≡ k + (left - 1) * k
 one-row-less zero k h = absurd (omega arith)

@@ -11,7 +11,7 @@ use Rattle.maptext.specs.declared.Read.{Read}
 use Rattle.maptext.specs.declared.Read.the-variants.{Map}
 use Rattle.maptext.specs.Reading.{Reading, refused, read, rowsAt, readingOf, numbersOf, readFor, cellsLeft, IsRead}
 use Rattle.maptext.specs.Working.{bytesIn}
-use Rattle.textlines.proofs.Rooms.{sets-whole}
+use Rattle.putting.proofs.Puts.{sets-whole}
 use Rattle.maptext.proofs.Found.{IsFound, found, found-room, found-bytes, found-facts, found-end}
 
 -- the text is a map, for a cell room of that length

@@ -15,11 +15,11 @@ use Rattle.floor.specs.Refusal.{Line, line, screen, mapLines}
 use Rattle.floor.proofs.Screens.{andThen, screen-append}
 use Rattle.floor.proofs.Passing.{MapFacts}
 use Rattle.floor.specs.Numbers.{gives, afterScreen}
-use Rattle.textlines.specs.Working.{IsPut}
+use Rattle.putting.specs.Put.{IsPut}
 use Rattle.maptext.specs.declared.Written.{Written}
 use Rattle.maptext.specs.declared.Written.the-variants.{Length}
 use Rattle.maptext.specs.Text.{textOf, writeLines, numbersOf, textLeft, IsWritten}
-use Rattle.textlines.proofs.Rooms.{sets-whole}
+use Rattle.putting.proofs.Puts.{sets-whole}
 
 -- the map's rows are in its bytes
 pub rows-in-map : {f : Floor} {m : List ℕ} → MapFacts f m → f .height * f .width ≤ length m

@@ -5,7 +5,7 @@ ghost use Prim.Native.Nat.{suc, _+_, _*_, _≤_, _<_};
 ghost use lib.ListN.{length, take};
 ghost use Rattle.floor.specs.Place.{greatestSide, floorOf};
 ghost use Rattle.textlines.specs.Line.{LF};
-ghost use Rattle.textlines.specs.Working.{IsPut};
+ghost use Rattle.putting.specs.Put.{IsPut};
 ghost use Rattle.maptext.specs.Text.{charOf, rows, header, numbersOf, IsWritten};
 ghost use Rattle.maptext.specs.Calls.{writtenNumbers, WriteCalled};
 ghost use Rattle.maptext.specs.Working.{Weights};
@@ -14,8 +14,8 @@ use crate::WrittenNumbers;
 use crate::chars::char_of;
 use floor::Floor;
 use floor::Screen;
+use putting::put;
 use screens::screen_map;
-use textlines::lines::put;
 use textlines::lines::put_side_line;
 use textlines::lines::side_line_length;
 

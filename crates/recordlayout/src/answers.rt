@@ -1,9 +1,6 @@
-// An answer put into its record.
+// An answer as its record.
 ghost use mathlib.Core.Path.{_≡_};
-ghost use Prim.Native.Nat.{_+_, _≤_};
-ghost use lib.ListN.{length};
-ghost use lib.Seq.{paste};
-ghost use Rattle.recordlayout.specs.Record.{recordSize, recordOf};
+ghost use Rattle.recordlayout.specs.Record.{recordOf};
 ghost use Rattle.recordlayout.specs.Fields.{SmallRefusal, recordWith};
 use crate::RECORD_SIZE;
 use floor::MARK;
@@ -50,17 +47,5 @@ pub fn record_of(answer: Answer) -> [u8; RECORD_SIZE]
         }
         Answer::None(settled) => record_with(2, 0, settled as u64, MARK as u64, 0),
         Answer::Stopped(settled, cost) => record_with(3, 0, settled as u64, cost as u64, 0),
-    }
-}
-
-// Puts a record into a buffer, from an offset on.
-pub fn store(answer: &[u8], records: &mut [u8], at: usize)
-    requires { ⌜ (recordSize ≤ length (now answer)) × (at + recordSize ≤ length (now records)) ⌝ }
-    ensures { λ _. ⌜ now (records .exit) ≡ paste (now (records .entry)) at (now (answer .entry)) recordSize ⌝ }
-{
-    let mut i = 0;
-    while i < RECORD_SIZE {
-        records[at + i] = answer[i];
-        i += 1;
     }
 }

@@ -13,8 +13,8 @@ use Rattle.floor.specs.declared.Screen.{Screen}
 use Rattle.floor.specs.declared.Screen.the-variants.{Passed, Refused}
 use Rattle.floor.specs.Refusal.{Line, line, screen}
 use Rattle.floor.proofs.Screens.{none-given, andThen, screen-append}
-use Rattle.textlines.specs.Working.{IsPut}
-use Rattle.textlines.proofs.Rooms.{sets-whole}
+use Rattle.putting.specs.Put.{IsPut}
+use Rattle.putting.proofs.Puts.{sets-whole}
 use Rattle.routelog.specs.declared.EntryWritten.{EntryWritten}
 use Rattle.routelog.specs.declared.EntryWritten.the-variants.{Length}
 use Rattle.routelog.specs.Entry.{Entry, entryBytes, greatestLength, canBeLogged, stepsIn, allDirections}

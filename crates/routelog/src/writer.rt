@@ -1,11 +1,11 @@
 // One entry into a room.
 ghost use mathlib.Core.Path.{_≡_};
 ghost use Prim.Native.Nat.{_+_, _≤_};
-ghost use lib.ListN.{length, replicate};
+ghost use lib.ListN.{length};
 ghost use Rattle.floor.specs.Refusal.{screen};
-ghost use Rattle.textlines.specs.Working.{IsPut};
+ghost use Rattle.putting.specs.Put.{IsPut};
 ghost use Rattle.recordlayout.specs.Record.{recordSize};
-ghost use Rattle.routelog.specs.Entry.{greatestLength, entryOf, routeSize, filler, routeBytes, entryBytes};
+ghost use Rattle.routelog.specs.Entry.{greatestLength, entryOf, routeSize, routeBytes, entryBytes};
 ghost use Rattle.routelog.specs.Writing.{partLines, numbersOf, IsWritten};
 ghost use Rattle.routelog.specs.Calls.{writtenNumbers, WriteCalled};
 use crate::EntryWritten;
@@ -16,22 +16,10 @@ use crate::entries::all_within;
 use crate::entries::can_be_logged;
 use crate::entries::route_size;
 use floor::Screen;
+use putting::fill;
+use putting::put;
 use recordlayout::RECORD_SIZE;
 use recordlayout::fields::numbers_in;
-use textlines::lines::put;
-
-// Fills that many bytes of the room, and answers the place after them.
-fn put_filler(count: usize, room: &mut [u8], at: usize) -> usize
-    requires { ⌜ at + count ≤ length (now room) ⌝ }
-    ensures { λ r. ⌜ IsPut (replicate count filler) (now (room .entry)) at r (now (room .exit)) ⌝ }
-{
-    let mut i = 0;
-    while i < count {
-        room[at + i] = FILLER;
-        i += 1;
-    }
-    at + i
-}
 
 fn put_route(directions: &[u8], room: &mut [u8], at: usize) -> usize
     requires { ⌜ (length (now directions) ≤ greatestLength) × (at + routeSize (length (now directions)) ≤ length (now room)) ⌝ }
@@ -40,7 +28,7 @@ fn put_route(directions: &[u8], room: &mut [u8], at: usize) -> usize
     let count = directions.len();
     let left = route_size(count) - count;
     let end = put(directions, room, at);
-    put_filler(left, room, end)
+    fill(FILLER, left, room, end)
 }
 
 fn put_entry(question: &[u8], answer: &[u8], directions: &[u8], room: &mut [u8]) -> usize

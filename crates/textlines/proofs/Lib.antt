@@ -1,4 +1,3 @@
-pub mod Rooms
 pub mod Beginnings
 pub mod Decimals
 pub mod Sides

@@ -1,11 +1,8 @@
 -- What the functions of lines promise to each other. What a line means is in Line.
-use mathlib.Core.Path.{_≡_}
 use mathlib.Core.Bool.{cond, _&&_}
 use mathlib.Core.List.{List, [], _∷_}
 use Prim.Native.Nat.{ℕ, _+_, _-_, _*_, _/_, _%_}
 use lib.Dec.{leb, ltb}
-use lib.ListN.{length}
-use lib.Seq.{sets}
 
 -- the number that the digits at the beginning of a text give, read on from n; it stops at a number of four digits, which no side exceeds
 abbrev pub runValue : ℕ → List ℕ → ℕ
@@ -19,8 +16,3 @@ greatestWord = 7
 -- the digit of n at a unit (1, 10, 100, ..), if n reaches the unit
 unfoldable pub digitAt : ℕ → ℕ → List ℕ
 digitAt unit n = cond (ltb n unit) [] ((48 + n / unit % 10) ∷ [])
-
--- bs was put into the room at a place, and r is the place after it
-pub record IsPut (bs room : List ℕ) (at r : ℕ) (room′ : List ℕ) : Type 0 where
-  pub next : r ≡ at + length bs
-  pub leaves : room′ ≡ sets room at bs

@@ -1,11 +1,13 @@
-// The lines of a header, and a room that is written from a place on.
+// The lines of a header, read and written.
 ghost use mathlib.Core.Path.{_≡_};
 ghost use Prim.Native.Nat.{_+_, _≤_, _<_};
 ghost use lib.ListN.{length, drop};
 ghost use Rattle.floor.specs.Place.{greatestSide};
 use floor::GREATEST_SIDE;
+use putting::put;
+ghost use Rattle.putting.specs.Put.{IsPut};
 ghost use Rattle.textlines.specs.Line.{digits, sideLine, begins, sideIn};
-ghost use Rattle.textlines.specs.Working.{runValue, greatestWord, digitAt, IsPut};
+ghost use Rattle.textlines.specs.Working.{runValue, greatestWord, digitAt};
 
 fn begins(line: &[u8], text: &[u8]) -> bool
     ensures { λ r. ⌜ r ≡ begins (now (line .entry)) (now (text .entry)) ⌝ }
@@ -21,19 +23,6 @@ fn begins(line: &[u8], text: &[u8]) -> bool
         i += 1;
     }
     true
-}
-
-// Puts `bytes` into the room at a place, and answers the place after them.
-pub fn put(bytes: &[u8], room: &mut [u8], at: usize) -> usize
-    requires { ⌜ at + length (now bytes) ≤ length (now room) ⌝ }
-    ensures { λ r. ⌜ IsPut (now (bytes .entry)) (now (room .entry)) at r (now (room .exit)) ⌝ }
-{
-    let mut i = 0;
-    while i < bytes.len() {
-        room[at + i] = bytes[i];
-        i += 1;
-    }
-    at + i
 }
 
 fn narrowed(digit: usize) -> u8

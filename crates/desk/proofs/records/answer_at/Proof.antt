@@ -30,11 +30,11 @@ record-of-requires c κs =
     let small = small-part (s .args .records .now) (s .args .at) (s .args .at + recordSize - s .args .at) (λ v. k .slice-known .given v .fits) in
     answers-fit (s .args .f) (s .args .map .now) _ _ small (x .ask .ensures) .refusal-fits
 
-slice-aggregate-store : tie.Need-slice-aggregate-store
-slice-aggregate-store c = search needs
+slice-aggregate-put : tie.Need-slice-aggregate-put
+slice-aggregate-put c = search needs
 
-store-requires : tie.Need-store-requires
-store-requires c κs = search needs
+put-requires : tie.Need-put-requires
+put-requires c κs = search needs
 
 same-length : tie.Need-same-length
 same-length c = search needs
@@ -53,7 +53,8 @@ returns c =
     let y = c .before .before in
     let z = y .before .before .before in
     let x = z .before .before .before .before .before .before .before in
-    answered-at (x .ask .ensures) (z .record-of .ensures) (y .store .ensures)
+    let s = x .before .before .before .before .before .before .before .before .before .before .before in
+    answered-at (x .ask .ensures) (z .record-of .ensures) (s .pre) (y .put .ensures)
 
 pub answer-at-spec : {M : Type 1} → statement M
 answer-at-spec =
@@ -65,8 +66,8 @@ answer-at-spec =
     part-ask-end
     ask-requires
     record-of-requires
-    slice-aggregate-store
-    store-requires
+    slice-aggregate-put
+    put-requires
     same-length
     same-length-2
     same-length-3

@@ -2,7 +2,7 @@
 use native.Mathlib.Omega.{arith}
 use borrow.Author.Needs.{needs}
 use Rattle.maptext.specs.Text.{header}
-use Rattle.textlines.proofs.Rooms.{put-both}
+use Rattle.putting.proofs.Puts.{put-both}
 use Rattle.maptext.proofs.Lengths.{header-length}
 use Rattle.maptext.proofs.writer.put_header.Statement.{statement}
 use Rattle.maptext.proofs.writer.put_header.Tie as tie

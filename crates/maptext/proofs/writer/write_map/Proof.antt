@@ -7,7 +7,7 @@ use Rattle.floor.specs.declared.Screen.the-variants.{Passed}
 use Rattle.floor.specs.Refusal.{screen, mapLines}
 use Rattle.floor.proofs.Passing.{MapFacts, map-facts}
 use Rattle.maptext.specs.Text.{textOf}
-use Rattle.textlines.proofs.Rooms.{put-both}
+use Rattle.putting.proofs.Puts.{put-both}
 use Rattle.maptext.proofs.Lengths.{text-length}
 use Rattle.maptext.proofs.Writing.{rows-in-map, written-refused, written-short, written-whole}
 use Rattle.maptext.proofs.writer.write_map.Statement.{statement}

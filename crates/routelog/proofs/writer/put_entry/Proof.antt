@@ -3,7 +3,7 @@ use Prim.Native.Nat.{_+_, _≤_}
 use native.Mathlib.Omega.{arith}
 use borrow.Author.Needs.{needs}
 use lib.ListN.{length}
-use Rattle.textlines.proofs.Rooms.{put-both}
+use Rattle.putting.proofs.Puts.{put-both}
 use Rattle.routelog.specs.Entry.{entryOf, routeSize, entryBytes}
 use Rattle.routelog.proofs.Sizes.{entry-length}
 use Rattle.routelog.proofs.writer.put_entry.Statement.{statement}

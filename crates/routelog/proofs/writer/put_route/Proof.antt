@@ -2,7 +2,7 @@
 use native.Mathlib.Omega.{arith}
 use borrow.Author.Needs.{needs}
 use lib.ListN.{length}
-use Rattle.textlines.proofs.Rooms.{put-both}
+use Rattle.putting.proofs.Puts.{put-both}
 use Rattle.routelog.specs.Entry.{routeBytes}
 use Rattle.routelog.proofs.Sizes.{size-holds}
 use Rattle.routelog.proofs.writer.put_route.Statement.{statement}
@@ -17,17 +17,17 @@ sub-left c = omega (arith, size-holds (length (c .before .before .before .args .
 put-requires : tie.Need-put-requires
 put-requires c κs = omega (arith, size-holds (length (c .before .before .before .before .args .directions .now)))
 
-put-filler-requires : tie.Need-put-filler-requires
-put-filler-requires c κs = omega (arith, size-holds (length (c .before .before .before .before .before .before .before .before .args .directions .now)), c .before .before .before .before .before .route-size .ensures, c .before .before .before .put .ensures .next)
+fill-requires : tie.Need-fill-requires
+fill-requires c κs = omega (arith, size-holds (length (c .before .before .before .before .before .before .before .before .args .directions .now)), c .before .before .before .before .before .route-size .ensures, c .before .before .before .put .ensures .next)
 
 same-length : tie.Need-same-length
 same-length c = search needs
 
 returns : tie.Need-returns
 unfolding routeBytes
-returns c = rw (← c .before .before .before .before .before .before .before .before .route-size .ensures) (put-both (c .before .before .before .before .before .before .put .ensures) (c .before .before .put-filler .ensures))
+returns c = rw (← c .before .before .before .before .before .before .before .before .route-size .ensures) (put-both (c .before .before .before .before .before .before .put .ensures) (c .before .before .fill .ensures))
 
 pub put-route-spec : {M : Type 1} → statement M
 put-route-spec =
     tie.close
-    (tie.spec route-size-requires sub-left put-requires put-filler-requires same-length returns)
+    (tie.spec route-size-requires sub-left put-requires fill-requires same-length returns)

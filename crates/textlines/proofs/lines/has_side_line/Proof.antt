@@ -6,7 +6,7 @@ use native.Mathlib.Omega.{arith}
 use borrow.Author.Needs.{needs}
 use lib.ListN.{length}
 use Rattle.textlines.specs.Line.{sideLine, begins}
-use Rattle.textlines.proofs.Rooms.{put-first}
+use Rattle.putting.proofs.Puts.{put-first}
 use Rattle.textlines.proofs.Decimals.{short-line}
 use Rattle.textlines.proofs.lines.has_side_line.Statement.{statement}
 use Rattle.textlines.proofs.lines.has_side_line.Tie as tie

@@ -1,7 +1,7 @@
 -- The four digits are put one after the other.
 use native.Mathlib.Omega.{arith}
 use borrow.Author.Needs.{needs}
-use Rattle.textlines.proofs.Rooms.{put-both}
+use Rattle.putting.proofs.Puts.{put-both}
 use Rattle.textlines.proofs.Decimals.{four-digits, four-lengths}
 use Rattle.textlines.proofs.lines.put_digits.Statement.{statement}
 use Rattle.textlines.proofs.lines.put_digits.Tie as tie

@@ -3,7 +3,7 @@ use native.Mathlib.Omega.{arith}
 use borrow.Author.Needs.{needs}
 use lib.ListN.{length-append}
 use Rattle.textlines.specs.Line.{sideLine}
-use Rattle.textlines.proofs.Rooms.{put-both}
+use Rattle.putting.proofs.Puts.{put-both}
 use Rattle.textlines.proofs.lines.put_side_line.Statement.{statement}
 use Rattle.textlines.proofs.lines.put_side_line.Tie as tie
 

@@ -1,18 +1,17 @@
--- The invariant: the first i bytes of filler have been put. The measure is how many are left.
+-- The invariant: the first i of as many bytes have been put. The measure is how many are left.
 use mathlib.Core.Path.{_≡_, sym}
 use Prim.Native.Nat.{_-_}
 use native.Mathlib.Omega.{arith}
 use lib.ListN.{length, replicate, length-replicate, getD-replicate}
-use Rattle.textlines.proofs.Rooms.{Putting, putting-none, putting-next, putting-all}
-use Rattle.routelog.specs.Entry.{filler}
-use Rattle.routelog.proofs.writer.put_filler.Statement.{statement}
-use Rattle.routelog.proofs.writer.put_filler.Tie as tie
+use Rattle.putting.proofs.Puts.{Putting, putting-none, putting-next, putting-all}
+use Rattle.putting.proofs.fill.Statement.{statement}
+use Rattle.putting.proofs.fill.Tie as tie
 
 abbrev Inv-loop : tie.InvT-loop
-Inv-loop count room₀ at i₀ room i = Putting (replicate count filler) room₀ at i room
+Inv-loop byte count room₀ at i₀ room i = Putting (replicate count byte) room₀ at i room
 
 abbrev μ-loop : tie.MeasureT-loop
-μ-loop count room₀ at i₀ room i = count - i
+μ-loop byte count room₀ at i₀ room i = count - i
 
 loop-holds : tie.Need-loop-holds Inv-loop μ-loop
 loop-holds c = putting-none _ _ _
@@ -32,11 +31,12 @@ loop-less c = omega arith
 loop-again : tie.Need-loop-again Inv-loop μ-loop
 loop-again c =
     let count = c .before .before .args .count in
-    let size : length (replicate count filler) ≡ count = length-replicate count filler in
-    putting-next (c .before .loop .inv) (omega arith) (sym (getD-replicate count (c .before .loop .i) filler 0 (c .loop-test .taken)))
+    let byte = c .before .before .args .byte in
+    let size : length (replicate count byte) ≡ count = length-replicate count byte in
+    putting-next (c .before .loop .inv) (omega arith) (sym (getD-replicate count (c .before .loop .i) byte 0 (c .loop-test .taken)))
 
 add-result : tie.Need-add-result Inv-loop μ-loop
-add-result c = omega (arith, c .before .loop .inv .within, length-replicate (c .before .before .args .count) filler)
+add-result c = omega (arith, c .before .loop .inv .within, length-replicate (c .before .before .args .count) (c .before .before .args .byte))
 
 same-length : tie.Need-same-length Inv-loop μ-loop
 same-length c = c .before .loop .inv .same
@@ -44,10 +44,10 @@ same-length c = c .before .loop .inv .same
 returns : tie.Need-returns Inv-loop μ-loop
 returns c =
     let count = c .before .before .args .count in
-    putting-all (c .before .loop .inv) (omega (arith, length-replicate count filler, c .before .loop .inv .within))
+    putting-all (c .before .loop .inv) (omega (arith, length-replicate count (c .before .before .args .byte), c .before .loop .inv .within))
 
-pub put-filler-spec : {M : Type 1} → statement M
-put-filler-spec =
+pub fill-spec : {M : Type 1} → statement M
+fill-spec =
     tie.close
     (tie.spec
     Inv-loop

@@ -5,8 +5,8 @@ use Prim.Native.Nat.{ℕ, zero, suc, _+_, _-_, _≤_, _<_}
 use native.Mathlib.Numerals.{add-one}
 use native.Mathlib.Omega.{arith}
 use lib.ListN.{length, getD, set, take, drop, length-append, length-set}
-use lib.Seq.{sets, sets-eq, drop-cons, drop-length, take-append-seam}
-use Rattle.textlines.specs.Working.{IsPut}
+use lib.Seq.{sets, sets-eq, paste, drop-cons, drop-length, take-length, take-append-seam}
+use Rattle.putting.specs.Put.{IsPut}
 
 pub sets-append : (xs ys room : List ℕ) (at : ℕ) → sets room at (xs ++ ys) ≡ sets (sets room at xs) (at + length xs) ys
 sets-append [] ys room at = let e : at + 0 ≡ at = omega arith in rw e
@@ -55,6 +55,10 @@ pub put-first : {xs room room′ : List ℕ} {r : ℕ} → IsPut xs room 0 r roo
 put-first {xs} {room} {r = r} p h =
     let e : r - 0 ≡ length xs = omega (arith, p .next) in
     rw (p .leaves, e, sets-whole xs room h) (take-append-seam xs (drop (length xs) room))
+
+-- and over its own bytes anywhere
+pub put-pasted : {xs room room′ : List ℕ} {at r n : ℕ} → IsPut xs room at r room′ → length xs ≡ n → at + n ≤ length room → room′ ≡ paste room at xs n
+put-pasted {xs} {room} {at = at} p size fits = p .leaves ∙ sets-eq xs room at (omega arith) ∙ rw (← size, take-length xs)
 
 pub map-at : (f : ℕ → ℕ) (xs : List ℕ) (i : ℕ) → i < length xs → f (getD xs i 0) ≡ getD (map f xs) i 0
 map-at f [] i h = absurd (omega arith)

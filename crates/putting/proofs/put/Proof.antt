@@ -3,9 +3,9 @@ use mathlib.Core.Path.{refl}
 use Prim.Native.Nat.{_-_}
 use native.Mathlib.Omega.{arith}
 use lib.ListN.{length}
-use Rattle.textlines.proofs.Rooms.{Putting, putting-none, putting-next, putting-all}
-use Rattle.textlines.proofs.lines.put.Statement.{statement}
-use Rattle.textlines.proofs.lines.put.Tie as tie
+use Rattle.putting.proofs.Puts.{Putting, putting-none, putting-next, putting-all}
+use Rattle.putting.proofs.put.Statement.{statement}
+use Rattle.putting.proofs.put.Tie as tie
 
 abbrev Inv-loop : tie.InvT-loop
 Inv-loop bytes room₀ at i₀ room i = Putting bytes room₀ at i room
