@@ -14,4 +14,5 @@ pub mod RoundTrip
 pub mod Logging
 pub mod Searches
 pub mod Refusals
+pub mod Window
 pub mod Calls

@@ -14,12 +14,11 @@ use Rattle.floor.specs.Refusal.{screen}
 use Rattle.floor.specs.Numbers.{Numbers}
 use Rattle.recordlayout.specs.Record.{recordSize}
 use Rattle.routelog.specs.declared.Outcome.{Outcome}
-use Rattle.routelog.specs.declared.EntryRead.{EntryRead}
 use Rattle.routelog.specs.declared.EntryWritten.{EntryWritten}
 use Rattle.routelog.specs.Entry.{Entry, entryBytes, routeSize, filler, canBeLogged, stepsIn, allDirections, allFiller}
-use Rattle.routelog.specs.Reading.{answerAt, routeAt, routeLines, readLines, Reading, empty, refused, entry, readingOf, numbersOf, outcomeFor, IsRead}
+use Rattle.routelog.specs.Reading.{answerAt, routeAt, routeLines, readLines, Reading, empty, refused, entry, readingOf, numbersOf, outcomeFor}
 use Rattle.routelog.specs.Writing as writes
-use Rattle.routelog.specs.Writing.{partLines, writeLines, writtenFor, IsWritten}
+use Rattle.routelog.specs.Writing.{partLines, writeLines, writtenFor}
 use Rattle.routelog.specs.Refusals.{WrongByte, HasRecords, HasRoute, ReaderRefuses, WriterRefuses}
 use Rattle.routelog.proofs.Bytes.{within-at, outside}
 use Rattle.routelog.proofs.Sizes.{size-holds}
@@ -213,31 +212,19 @@ module _ (e : Entry) (room : ℕ) where
           let place : p ≡ 0 = cc in
           (subst (λ (j : ℕ). WriterRefuses e room j) number (w .1), place)
 
--- the same of the reader's own answer, and then its room is as it was
-pub read-refused-exactly : {rest room : List ℕ} {r : EntryRead} {room′ : List ℕ} → IsRead rest room r room′ → (k p : ℕ)
-    → (r .outcome ≡ Outcome.Refused k p) ↔ (ReaderRefuses rest (length room) k × (p ≡ 0))
-read-refused-exactly {rest} {room} {r} x k p =
-    (λ e. reader-refuses rest (length room) k p .0 (go (readingOf rest (length room)) (sym (ap numbersOf e) ∙ x .outcome)), λ w. back (reader-refuses rest (length room) k p .1 w))
+-- the reader's own answer is a refusal exactly when the reading is
+pub outcome-refused : (y : Reading) (o : Outcome) (k p : ℕ) → numbersOf o ≡ outcomeFor y → (o ≡ Outcome.Refused k p) ↔ (y ≡ refused k p)
+outcome-refused y o k p is = (λ e. go y (sym (ap numbersOf e) ∙ is), λ e. sym (outcome-back o) ∙ ap outcomeOf (is ∙ ap outcomeFor e))
   where
     go : (y : Reading) → Numbers.refused k p ≡ outcomeFor y → y ≡ refused k p
     go empty e = let z : _≡_ {A = ℕ} 0 1 = cc in absurd (omega arith)
     go (refused j q) e = let number : k ≡ j = cc in let place : p ≡ q = cc in rw (number, place)
     go (entry y) e = let z : _≡_ {A = ℕ} 0 1 = cc in absurd (omega arith)
 
-    back : readingOf rest (length room) ≡ refused k p → r .outcome ≡ Outcome.Refused k p
-    back e = sym (outcome-back (r .outcome)) ∙ ap outcomeOf (x .outcome ∙ ap outcomeFor e)
-
--- and of the writer's
-pub written-refused-exactly : {e : Entry} {room : List ℕ} {w : EntryWritten} {room′ : List ℕ} → IsWritten e room w room′ → (k p : ℕ)
-    → (w ≡ EntryWritten.Refused k p) ↔ (WriterRefuses e (length room) k × (p ≡ 0))
-written-refused-exactly {e} {room} {w} x k p = (
-  λ y. writer-refuses e (length room) k p .0 (go (screen (writeLines e (length room))) (sym (ap writes.numbersOf y) ∙ x .answers)),
-  λ y. back (writer-refuses e (length room) k p .1 y),
-)
+-- and the writer's exactly when its lines give one
+pub written-refused : (e : Entry) (s : Screen) (w : EntryWritten) (k p : ℕ) → writes.numbersOf w ≡ writtenFor e s → (w ≡ EntryWritten.Refused k p) ↔ (s ≡ Refused k p)
+written-refused e s w k p is = (λ y. go s (sym (ap writes.numbersOf y) ∙ is), λ y. sym (written-back w) ∙ ap writtenOf (is ∙ ap (writtenFor e) y))
   where
     go : (s : Screen) → Numbers.refused k p ≡ writtenFor e s → s ≡ Refused k p
     go Passed y = let z : _≡_ {A = ℕ} 0 1 = cc in absurd (omega arith)
     go (Refused j q) y = let number : k ≡ j = cc in let place : p ≡ q = cc in rw (number, place)
-
-    back : screen (writeLines e (length room)) ≡ Refused k p → w ≡ EntryWritten.Refused k p
-    back y = sym (written-back w) ∙ ap writtenOf (x .answers ∙ ap (writtenFor e) y)

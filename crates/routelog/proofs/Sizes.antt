@@ -16,6 +16,13 @@ size-holds n =
     let part : (n + (recordSize - 1)) % recordSize < recordSize = mod-lt (n + (recordSize - 1)) (omega arith) in
     (omega arith, omega arith)
 
+-- more directions do not take fewer records
+pub sizes-rise : (n k : ℕ) → n ≤ k → routeSize n ≤ routeSize k
+unfolding routeSize
+sizes-rise n k h =
+    let part : (k + (recordSize - 1)) % recordSize < recordSize = mod-lt (k + (recordSize - 1)) (omega arith) in
+    omega (arith, div-add-mod' (n + (recordSize - 1)) recordSize, div-add-mod' (k + (recordSize - 1)) recordSize, h)
+
 pub route-length : (ds : List ℕ) → length (routeBytes ds) ≡ routeSize (length ds)
 unfolding routeBytes
 route-length ds =
