@@ -7,8 +7,13 @@ ghost use Rattle.maptext.specs.Calls.{readNumbers, ReadCalled, WriteCalled};
 ghost use Rattle.claims.specs.Route.{claim, routeVerdict, packed};
 ghost use Rattle.claims.specs.Table.{tableVerdict, asFault};
 ghost use Rattle.search.specs.Search.{question, rooms, Called};
+ghost use Rattle.routelog.specs.Entry.{entryOf};
+ghost use Rattle.routelog.specs.Calls as log;
 use maptext::ReadNumbers;
 use maptext::WrittenNumbers;
+use recordlayout::RECORD_SIZE;
+use routelog::EntryNumbers;
+use routelog::EntryWrittenNumbers;
 use search::AnswerNumbers;
 
 #[no_mangle]
@@ -94,4 +99,23 @@ pub extern "C" fn fradnumber_write_map(
     ensures { λ r. ⌜ WriteCalled (floorOf width height 8) (now (map .entry)) (now (text .entry)) r (now (text .exit)) ⌝ }
 {
     maptext::fradnumber_write_map(width, height, map, text)
+}
+
+#[no_mangle]
+pub extern "C" fn fradnumber_read_entry(rest: &[u8], route: &mut [u8]) -> EntryNumbers
+    ensures { λ r. ⌜ log.ReadCalled (now (rest .entry)) (now (route .entry)) r (now (route .exit)) ⌝ }
+{
+    routelog::fradnumber_read_entry(rest, route)
+}
+
+#[no_mangle]
+pub extern "C" fn fradnumber_write_entry(
+    question: &[u8; RECORD_SIZE],
+    answer: &[u8; RECORD_SIZE],
+    directions: &[u8],
+    room: &mut [u8],
+) -> EntryWrittenNumbers
+    ensures { λ r. ⌜ log.WriteCalled (entryOf (now (question .entry)) (now (answer .entry)) (now (directions .entry))) (now (room .entry)) r (now (room .exit)) ⌝ }
+{
+    routelog::fradnumber_write_entry(question, answer, directions, room)
 }
