@@ -41,6 +41,7 @@ use Rattle.desk.specs.Desk.{withWays, Asked, no-zeros, searched, wholeRecords, 
 use Rattle.tender.specs.SearchTable.{SameLengths}
 use Rattle.tender.specs.FirstCondition.{Refuses, SaysRefused, IsRefusable, zeros-missing, not-searched, FirstCondition}
 use Rattle.tender.proofs.Unread.{reader-refuses, judge-refuses, program-refuses}
+use Rattle.tender.proofs.Unlogged.{log-reader-refuses, log-reader-call-refuses, log-writer-refuses, log-writer-call-refuses}
 use Rattle.tender.proofs.Records.{same-length, alike, answered-each}
 
 -- an answer that is a row of 01's table is no refusal
@@ -223,4 +224,8 @@ first-condition = record {
   map-screen = λ f m x e. screen-refuses (mapLines f m) x e tt;
   floor-screen = λ f m x e. screen-refuses (floorLines f m) x e tt;
   question-screen = λ f m s g x e. screen-refuses (questionLines f m s g) x e tt;
+  log-reader = λ rest room r room′. log-reader-refuses rest room room′ r;
+  log-reader-call = λ rest room x room′. log-reader-call-refuses rest room room′ x;
+  log-writer = λ e room w room′. log-writer-refuses e room room′ w;
+  log-writer-call = λ e room x room′. log-writer-call-refuses e room room′ x;
 }

@@ -1,5 +1,6 @@
 pub mod CasesHold
 pub mod Unread
+pub mod Unlogged
 pub mod Rowed
 pub mod Leaving
 pub mod Tabled

@@ -31,6 +31,16 @@ use Rattle.search.specs.declared.Answer.{Answer}
 use Rattle.search.specs.declared.AnswerNumbers.{AnswerNumbers}
 use Rattle.search.specs.Search as answer
 use Rattle.search.specs.Search.{Question, Rooms, searchLines, Searched, Called}
+use Rattle.routelog.specs.declared.Outcome.{Outcome}
+use Rattle.routelog.specs.declared.EntryRead.{EntryRead}
+use Rattle.routelog.specs.declared.EntryNumbers.{EntryNumbers}
+use Rattle.routelog.specs.declared.EntryWritten.{EntryWritten}
+use Rattle.routelog.specs.declared.EntryWrittenNumbers.{EntryWrittenNumbers}
+use Rattle.routelog.specs.Entry.{Entry}
+use Rattle.routelog.specs.Reading as log-read
+use Rattle.routelog.specs.Writing as log-written
+use Rattle.routelog.specs.Calls as log-calls
+use Rattle.routelog.specs.Refusals.{ReaderRefuses, WriterRefuses}
 use Rattle.desk.specs.Use.{greatestText, greatestUsedSide, IsUsed}
 use Rattle.recordlayout.specs.Record.{questionIn, waysIn, endsInZeros, recordOf}
 use Rattle.desk.specs.Desk.{withWays, Asked, wholeRecords, recordAt, IsAnswered}
@@ -59,6 +69,12 @@ pub record SaysRefused (x n p : ℕ) : Type 0 where
   pub place : x % 4294967296 ≡ p
   pub no-fault : n < 40
   pub not-held : 0 < n
+
+-- the numbers of a call of the route log say refusal n at place p: 0 is none, and an empty rest of a file has no other
+pub record Says (refusal place n p : ℕ) : Type 0 where
+  pub number : refusal ≡ n
+  pub at : place ≡ p
+  pub some : 0 < n
 
 -- The checks are lent nothing to write to: what they answer is all that they do
 pub record FirstCondition : Type 0 where
@@ -101,3 +117,12 @@ pub record FirstCondition : Type 0 where
       → (n p : ℕ) → (numbersOf x ≡ refused n p) ↔ IsLowestLine (floorLines f m) n p
   pub question-screen : (f : Floor) (m : List ℕ) (s g : ℕ) (x : Screen) → x ≡ screen (questionLines f m s g)
       → (n p : ℕ) → (numbersOf x ≡ refused n p) ↔ IsLowestLine (questionLines f m s g) n p
+  -- the route log, in 02's words; its refusals have place 0
+  pub log-reader : (rest room : List ℕ) (r : EntryRead) (room′ : List ℕ) → log-read.IsRead rest room r room′
+      → Refuses (λ n p. ReaderRefuses rest (length room) n × (p ≡ 0)) (λ n p. r .outcome ≡ Outcome.Refused n p) (room′ ≡ room)
+  pub log-reader-call : (rest room : List ℕ) (x : EntryNumbers) (room′ : List ℕ) → log-calls.ReadCalled rest room x room′
+      → Refuses (λ n p. ReaderRefuses rest (length room) n × (p ≡ 0)) (Says (x .refusal) (x .place)) (room′ ≡ room)
+  pub log-writer : (e : Entry) (room : List ℕ) (w : EntryWritten) (room′ : List ℕ) → log-written.IsWritten e room w room′
+      → Refuses (λ n p. WriterRefuses e (length room) n × (p ≡ 0)) (λ n p. w ≡ EntryWritten.Refused n p) (room′ ≡ room)
+  pub log-writer-call : (e : Entry) (room : List ℕ) (x : EntryWrittenNumbers) (room′ : List ℕ) → log-calls.WriteCalled e room x room′
+      → Refuses (λ n p. WriterRefuses e (length room) n × (p ≡ 0)) (Says (x .refusal) (x .place)) (room′ ≡ room)

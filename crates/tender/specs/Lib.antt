@@ -4,3 +4,4 @@ pub mod SearchTable
 pub mod SecondCondition
 pub mod Alone
 pub mod ThirdCondition
+pub mod RouteLog
