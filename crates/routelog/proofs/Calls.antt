@@ -9,19 +9,25 @@ use Rattle.floor.specs.declared.Screen.{Screen}
 use Rattle.floor.specs.declared.Screen.the-variants.{Passed, Refused}
 use Rattle.routelog.specs.declared.EntryRead.{EntryRead}
 use Rattle.routelog.specs.declared.EntryNumbers.{EntryNumbers}
+use Rattle.routelog.specs.declared.EntryWritten.{EntryWritten}
 use Rattle.routelog.specs.declared.EntryWrittenNumbers.{EntryWrittenNumbers}
 use Rattle.routelog.specs.Entry.{Entry}
 use Rattle.routelog.specs.Reading.{Reading, empty, refused, entry, readingOf, numbersOf, IsRead}
-use Rattle.routelog.specs.Writing.{writtenFor}
+use Rattle.routelog.specs.Writing as writes
+use Rattle.routelog.specs.Writing.{writtenFor, IsWritten}
 use Rattle.routelog.specs.Refusals.{ReaderRefuses, WriterRefuses}
 use Rattle.routelog.specs.Calls.{entryNumbers, calledAs, writtenNumbers, ReadCalled, WriteCalled}
 use Rattle.routelog.proofs.Taking.{reading-empty}
 use Rattle.routelog.proofs.Found.{empty-is, found, found-long}
 use Rattle.routelog.proofs.Refusals.{reader-refuses}
 
-pub called : {rest room : List ℕ} {r : EntryRead} {n : EntryNumbers} {room′ : List ℕ} → IsRead rest room r room′
+pub read-called : {rest room : List ℕ} {r : EntryRead} {n : EntryNumbers} {room′ : List ℕ} → IsRead rest room r room′
     → n ≡ entryNumbers (numbersOf (r .outcome)) (r .question) (r .answer) → ReadCalled rest room n room′
-called x e = record { numbers = e ∙ rw (x .outcome, x .question, x .answer); leaves = x .leaves }
+read-called x e = record { numbers = e ∙ rw (x .outcome, x .question, x .answer); leaves = x .leaves }
+
+pub write-called : {e : Entry} {room : List ℕ} {w : EntryWritten} {n : EntryWrittenNumbers} {room′ : List ℕ} → IsWritten e room w room′
+    → n ≡ writtenNumbers (writes.numbersOf w) → WriteCalled e room n room′
+write-called x e = record { numbers = e ∙ rw (x .answers); leaves = x .leaves }
 
 -- a second result that keeps the promise of a call is equal
 pub one-read-call : {rest room : List ℕ} {n k : EntryNumbers} {room₁ room₂ : List ℕ} → ReadCalled rest room n room₁ → ReadCalled rest room k room₂

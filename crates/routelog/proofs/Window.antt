@@ -44,7 +44,7 @@ module _ (piece more : List ℕ) (room : ℕ) (long : greatestEntry ≤ length p
 
   -- 4,096 bytes of a route lie behind the two records
   route-long : recordSize + recordSize + routeSize greatestLength ≤ length piece
-  route-long = long
+  route-long = omega (arith, long)
 
   file-long : length file ≡ length piece + length more
   file-long = length-append piece more
