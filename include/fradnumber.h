@@ -4,8 +4,8 @@
  * Every number is an unsigned 32-bit number and may have any value: what is wrong with it is answered, and nothing is
  * narrowed before it is judged. A slice is a pointer and then a length. A null pointer with length 0 is an empty slice;
  * a null or wrong pointer with a positive length is the caller's fault, as it is for memcpy. What a const pointer lends is
- * only read. Rooms that one call is lent do not overlap each other or the map. Calls keep nothing between them and may run
- * at the same time on rooms of their own.
+ * only read. A room does not overlap another room, or anything else that the same call is lent. Calls keep nothing between
+ * them and may run at the same time on rooms of their own.
  *
  * What each call promises is proved: docs/PROMISES.md. The rules, and what to do about each number: docs/MANUAL.md.
  */
@@ -24,11 +24,14 @@ extern "C" {
  * be changed for, the minor one with calls, fields at a struct's end or numbers that are new, the patch with all else. It
  * changes here and nowhere else; docs/C.md says what each version brought.
  */
-#define FRADNUMBER_VERSION 10100
+#define FRADNUMBER_VERSION 10200
 
-/* What is wrong: 0, a refusal (1 to 30), a cost table that is not right (40), or a fault in a claimed route (41 to 46). */
+/*
+ * What is wrong: 0, a refusal (1 to 30, and of the route log 61 to 64), a cost table that is not right (40), or a fault in a
+ * claimed route (41 to 46).
+ */
 enum fradnumber_number {
-    FRADNUMBER_HOLDS = 0,              /* nothing: the claim holds, the table is right, the text was read or written */
+    FRADNUMBER_HOLDS = 0,              /* nothing: the claim holds, the table is right, what was asked was read or written */
     FRADNUMBER_BAD_SIDE = 1,           /* width or height is 0 or above 256 */
     FRADNUMBER_BAD_LENGTH = 2,         /* the map's length is not width times height */
     FRADNUMBER_BAD_WEIGHT = 3,         /* a map byte is above 9; place: the lowest such cell */
@@ -57,7 +60,11 @@ enum fradnumber_number {
     FRADNUMBER_ENTERS_BLOCKED = 43,    /* a step enters a blocked cell; place: the step */
     FRADNUMBER_CUTS_CORNER = 44,       /* a diagonal step passes a blocked cell; place: the step */
     FRADNUMBER_NOT_AT_GOAL = 45,       /* the route ends elsewhere; place: the route's length */
-    FRADNUMBER_COST_DIFFERS = 46       /* the route costs something else; place: the route's length */
+    FRADNUMBER_COST_DIFFERS = 46,      /* the route costs something else; place: the route's length */
+    FRADNUMBER_LOG_ENDS_TOO_SOON = 61, /* the file ends inside the question or the answer, or inside the route */
+    FRADNUMBER_BAD_ANSWER = 62,        /* the answer is none that can be logged */
+    FRADNUMBER_BAD_DIRECTIONS = 63,    /* a direction is above 7, a filler is not 255, or the count given is wrong */
+    FRADNUMBER_SHORT_LOG_ROOM = 64     /* the room is shorter than the route read, or than the entry written */
 };
 
 /* No cost. */
@@ -162,6 +169,96 @@ struct fradnumber_written {
 struct fradnumber_written fradnumber_write_map(uint32_t width, uint32_t height,
                                                const uint8_t *map, size_t map_length,
                                                uint8_t *text, size_t text_length);
+
+/* The bytes of a question record and of an answer record. */
+#define FRADNUMBER_RECORD_SIZE 16
+
+/* The longest route that can be logged, and the bytes of the entry that holds it: no entry has more. */
+#define FRADNUMBER_LONGEST_LOGGED 4095
+#define FRADNUMBER_LONGEST_ENTRY 4128
+
+struct fradnumber_entry {
+    uint64_t refusal; /* enum fradnumber_number, 0 if the rest begins with an entry or is empty */
+    uint64_t place;   /* of the refusal: always 0 */
+    uint64_t length;  /* the route's length, 0 unless found */
+    uint64_t taken;   /* how many bytes the entry has; 0 if the rest is refused or empty */
+    uint8_t question[FRADNUMBER_RECORD_SIZE]; /* as it stands in the file; zeros if the rest is refused or empty */
+    uint8_t answer[FRADNUMBER_RECORD_SIZE];   /* the same */
+};
+
+/*
+ * Reads one entry of a route log from the rest of the file: a question record, an answer record and, if found, as many
+ * records of the same size as hold the directions, the last filled up with 255.
+ *
+ * A file is read call after call, the rest beginning `taken` bytes further on each time, until refusal and `taken` are both
+ * 0: then the rest is empty, and the file was whole. The refusals are, in this order, 61 in the question or the answer, 62,
+ * 61 in the route, 63, 64. The route room then begins with the route, a byte a step, and the rest of it is as it was; all of
+ * it is if there is no entry. Whether the route is allowed is not asked: that is for fradnumber_check_route.
+ *
+ * A room of FRADNUMBER_LONGEST_LOGGED bytes is enough for any route. The first FRADNUMBER_LONGEST_ENTRY bytes of the rest
+ * are read as all of it is, so that a file need not be in memory whole; fewer, if more follow, may be told as 61 wrongly,
+ * and no byte as the end.
+ */
+struct fradnumber_entry fradnumber_read_entry(const uint8_t *rest, size_t rest_length,
+                                              uint8_t *route, size_t route_length);
+
+struct fradnumber_entry_written {
+    uint64_t refusal; /* enum fradnumber_number, 0 if the entry was written */
+    uint64_t place;   /* of the refusal: always 0 */
+    uint64_t length;  /* of the entry in bytes, 0 if refused */
+};
+
+/*
+ * Writes one entry of a route log. Entries one after the other, with nothing between them, are a file.
+ *
+ * question and answer point to 16 bytes each and have no length: a null pointer is the caller's fault. The question may be
+ * any bytes. The answer can be logged if it is kind 0, a refusal number from 1 to 15 and zeros; or a kind from 1 to 3, three
+ * zeros, any settled count, and as number and length: for FRADNUMBER_FOUND any but FRADNUMBER_MARK, and at most
+ * FRADNUMBER_LONGEST_LOGGED; for FRADNUMBER_NONE FRADNUMBER_MARK, and 0; for FRADNUMBER_STOPPED any but FRADNUMBER_MARK,
+ * and 0. There are as many directions as that length says.
+ *
+ * The refusals are 62, 63, 64, in this order. The room then begins with the entry, and the rest of it is as it was; all of
+ * it is if the entry is refused. What was written reads back the same, and what was read writes back the same bytes.
+ */
+struct fradnumber_entry_written fradnumber_write_entry(const uint8_t question[FRADNUMBER_RECORD_SIZE],
+                                                       const uint8_t answer[FRADNUMBER_RECORD_SIZE],
+                                                       const uint8_t *directions, size_t directions_length,
+                                                       uint8_t *room, size_t room_length);
+
+/*
+ * What stands in a record. A number of four bytes has its lowest byte first. These four functions are C, for the caller's
+ * ease: no proof covers them, tests/c does.
+ */
+static inline uint32_t fradnumber_number_at(const uint8_t *record, size_t at)
+{
+    const uint8_t *bytes = record + at;
+    return bytes[0] | ((uint32_t)bytes[1] << 8) | ((uint32_t)bytes[2] << 16) | ((uint32_t)bytes[3] << 24);
+}
+
+static inline void fradnumber_put_number(uint8_t *record, size_t at, uint32_t number)
+{
+    size_t i;
+    for (i = 0; i < 4; i++) record[at + i] = (uint8_t)(number >> (8 * i));
+}
+
+/* Start, goal and limit at 0, 4 and 8, ways at 12. Ways above 255 spoil the three zeros after it, and so are not lost. */
+static inline void fradnumber_put_question(uint8_t record[FRADNUMBER_RECORD_SIZE],
+                                           uint32_t start, uint32_t goal, uint32_t limit, uint32_t ways)
+{
+    fradnumber_put_number(record, 0, start);
+    fradnumber_put_number(record, 4, goal);
+    fradnumber_put_number(record, 8, limit);
+    fradnumber_put_number(record, 12, ways);
+}
+
+/* Kind at 0, refusal at 1, two zeros; settled, number and length at 4, 8 and 12. A record has no place. */
+static inline void fradnumber_put_answer(uint8_t record[FRADNUMBER_RECORD_SIZE], struct fradnumber_answer answer)
+{
+    fradnumber_put_number(record, 0, (uint32_t)(answer.kind | (answer.refusal << 8)));
+    fradnumber_put_number(record, 4, (uint32_t)answer.settled);
+    fradnumber_put_number(record, 8, (uint32_t)answer.number);
+    fradnumber_put_number(record, 12, (uint32_t)answer.length);
+}
 
 #ifdef __cplusplus
 }

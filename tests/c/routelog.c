@@ -1,0 +1,323 @@
+/*
+ * The route log, called from C: entries read and written, every refusal at its edge and next to those tried after it, what is left
+ * in the rooms, a file cut at every byte; and the header's own functions for records.
+ */
+#include "expect.h"
+
+enum { OLD = 77, ROOM = 4200 };
+
+/* The structs as the archive has them. A layout of the header that differs does not compile. */
+typedef char entry_laid_out[sizeof(struct fradnumber_entry) == 64 && offsetof(struct fradnumber_entry, taken) == 24
+                            && offsetof(struct fradnumber_entry, question) == 32 && offsetof(struct fradnumber_entry, answer) == 48 ? 1 : -1];
+typedef char written_laid_out[sizeof(struct fradnumber_entry_written) == 24 ? 1 : -1];
+
+static uint8_t file[ROOM], route[ROOM], room[ROOM];
+
+static const struct fradnumber_answer stopped = {FRADNUMBER_STOPPED, 0, 0, 4, 280, 0}, none = {FRADNUMBER_NONE, 0, 0, 1, FRADNUMBER_MARK, 0};
+
+static struct fradnumber_answer found(uint32_t length)
+{
+    struct fradnumber_answer answer = {FRADNUMBER_FOUND, 0, 0, 5, 280, 0};
+    answer.length = length;
+    return answer;
+}
+
+static struct fradnumber_answer refused(uint64_t refusal)
+{
+    struct fradnumber_answer answer = {FRADNUMBER_REFUSED, 0, 0, 0, 0, 0};
+    answer.refusal = refusal;
+    return answer;
+}
+
+static int same(const uint8_t *bytes, const uint8_t *others, size_t length)
+{
+    size_t i;
+    for (i = 0; i < length; i++)
+        if (bytes[i] != others[i]) return 0;
+    return 1;
+}
+
+/* The bytes from `from` to `to` are all this one. */
+static int all(const uint8_t *bytes, size_t from, size_t to, uint8_t byte)
+{
+    for (; from < to; from++)
+        if (bytes[from] != byte) return 0;
+    return 1;
+}
+
+static void fill(uint8_t *bytes, size_t from, size_t to, uint8_t byte)
+{
+    for (; from < to; from++) bytes[from] = byte;
+}
+
+/* Lays an entry of `size` bytes without the writer: a question of 241, 242 and so on, and the directions 7 to 0 in turn. */
+static size_t lay(uint8_t *at, struct fradnumber_answer answer, size_t size)
+{
+    size_t i;
+    for (i = 0; i < 16; i++) at[i] = (uint8_t)(241 + i);
+    fradnumber_put_answer(at + 16, answer);
+    for (i = 0; i < answer.length && 32 + i < size; i++) at[32 + i] = (uint8_t)(7 - i % 8);
+    fill(at, 32 + i, size, 255);
+    return size;
+}
+
+/* The first `length` bytes of the file have no entry: nothing but the refusal is told, 0 if they are none, and the room is as it was. */
+static void no_entry(const char *what, size_t length, size_t most, uint64_t refusal)
+{
+    struct fradnumber_entry entry;
+    fill(route, 0, ROOM, OLD);
+    entry = fradnumber_read_entry(file, length, route, most);
+    expect_true(what, entry.refusal == refusal && entry.place == 0 && entry.length == 0 && entry.taken == 0);
+    expect_true("the records of no entry", all(entry.question, 0, 16, 0) && all(entry.answer, 0, 16, 0));
+    expect_true("the route room of no entry", all(route, 0, ROOM, OLD));
+}
+
+/* The answer at byte 16 of the file is not written with these directions, and the room is as it was. */
+static void not_written(const char *what, const uint8_t *directions, size_t count, size_t most, uint64_t refusal)
+{
+    struct fradnumber_entry_written written;
+    fill(room, 0, ROOM, OLD);
+    written = fradnumber_write_entry(file, file + 16, directions, count, room, most);
+    expect_true(what, written.refusal == refusal && written.place == 0 && written.length == 0);
+    expect_true("the room of no entry", all(room, 0, ROOM, OLD));
+}
+
+/* The first `size` bytes of the file are an entry: it is read with any bytes after it, and written back as it stands. */
+static void entry_of(const char *what, size_t count, size_t size)
+{
+    struct fradnumber_entry entry;
+    struct fradnumber_entry_written written;
+    fill(file, size, ROOM, 9);
+    entry = fradnumber_read_entry(file, ROOM, route, count);
+    expect_true("with bytes after it", entry.refusal == 0 && entry.length == count && entry.taken == size);
+    fill(route, 0, ROOM, OLD);
+    entry = fradnumber_read_entry(file, size, route, ROOM);
+    expect_true(what, entry.refusal == 0 && entry.place == 0 && entry.length == count && entry.taken == size);
+    expect_true("its records", same(entry.question, file, 16) && same(entry.answer, file + 16, 16));
+    expect_true("its route, and the room after it", same(route, file + 32, count) && all(route, count, ROOM, OLD));
+    fill(room, 0, ROOM, OLD);
+    written = fradnumber_write_entry(entry.question, entry.answer, route, count, room, size);
+    expect_true("written again", written.refusal == 0 && written.place == 0 && written.length == size);
+    expect_true("its bytes, and the room after them", same(room, file, size) && all(room, size, ROOM, OLD));
+    no_entry("without its last byte", size - 1, ROOM, FRADNUMBER_LOG_ENDS_TOO_SOON);
+    not_written("a room too short", file + 32, count, size - 1, FRADNUMBER_SHORT_LOG_ROOM);
+    if (count > 0) no_entry("a route room too short", size, count - 1, FRADNUMBER_SHORT_LOG_ROOM);
+}
+
+static void entries(void)
+{
+    static const struct { uint32_t count; size_t size; } lengths[] = {
+        {0, 32}, {1, 48}, {15, 48}, {16, 48}, {17, 64}, {32, 64}, {33, 80}, {4080, 4112}, {4081, 4128}, {4095, 4128},
+        {FRADNUMBER_LONGEST_LOGGED, FRADNUMBER_LONGEST_ENTRY}};
+    static const uint8_t bytes[3] = {0, 128, 255};
+    size_t i;
+    for (i = 0; i < sizeof lengths / sizeof lengths[0]; i++) {
+        lay(file, found(lengths[i].count), lengths[i].size);
+        entry_of("found", lengths[i].count, lengths[i].size);
+    }
+    lay(file, stopped, 32);
+    entry_of("stopped", 0, 32);
+    lay(file, none, 32);
+    entry_of("none", 0, 32);
+    for (i = 1; i <= 15; i++) {
+        lay(file, refused(i), 32);
+        entry_of("refused", 0, 32);
+    }
+    for (i = 0; i < 3; i++) {
+        lay(file, found(4), 48);
+        fill(file, 0, 16, bytes[i]);
+        entry_of("any question", 4, 48);
+    }
+}
+
+/* The answer at byte 16 of the file cannot be logged, read or written. */
+static void no_answer(const char *what)
+{
+    no_entry(what, ROOM, ROOM, FRADNUMBER_BAD_ANSWER);
+    no_entry("before 61 in the route", 32, 0, FRADNUMBER_BAD_ANSWER);
+    no_entry("after 61 in the answer", 31, 0, FRADNUMBER_LOG_ENDS_TOO_SOON);
+    not_written(what, route, 0, ROOM, FRADNUMBER_BAD_ANSWER);
+    not_written("before 63 and 64", file + 16, 7, 0, FRADNUMBER_BAD_ANSWER);
+}
+
+static void bad_numbers(const char *what, uint64_t kind, uint64_t refusal, uint64_t number, uint64_t length)
+{
+    struct fradnumber_answer answer = {0, 0, 0, 5, 0, 0};
+    answer.kind = kind;
+    answer.refusal = refusal;
+    answer.number = number;
+    answer.length = length;
+    if (kind == FRADNUMBER_REFUSED) answer.settled = 0;
+    fill(file, 0, ROOM, 1);
+    fradnumber_put_answer(file + 16, answer);
+    no_answer(what);
+}
+
+static void bad_answers(void)
+{
+    const struct fradnumber_answer good[4] = {refused(1), found(4), none, stopped};
+    size_t kind, i;
+    bad_numbers("a kind of 4", 4, 0, 280, 0);
+    bad_numbers("a kind of 255", 255, 0, 280, 0);
+    bad_numbers("refused, with no number", 0, 0, 0, 0);
+    bad_numbers("refused as 16", 0, 16, 0, 0);
+    bad_numbers("refused as 255", 0, 255, 0, 0);
+    bad_numbers("found at MARK", 1, 0, FRADNUMBER_MARK, 4);
+    bad_numbers("found with 4096 steps", 1, 0, 280, 4096);
+    bad_numbers("found with a step too many", 1, 0, 280, FRADNUMBER_LONGEST_LOGGED + 1);
+    bad_numbers("found with 2^31 steps", 1, 0, 280, 2147483648u);
+    bad_numbers("none, with another number than MARK", 2, 0, FRADNUMBER_MARK - 1, 0);
+    bad_numbers("none, with a step", 2, 0, FRADNUMBER_MARK, 1);
+    bad_numbers("stopped at MARK", 3, 0, FRADNUMBER_MARK, 0);
+    bad_numbers("stopped, with 2^24 steps", 3, 0, 280, 16777216);
+    for (kind = 0; kind < 4; kind++)
+        for (i = kind == FRADNUMBER_REFUSED ? 2 : 1; i < (kind == FRADNUMBER_REFUSED ? 16u : 4u); i++) {
+            lay(file, good[kind], 48);
+            file[16 + i] = 1;
+            no_answer("a byte that must be 0");
+        }
+    lay(file, found(4), 48);
+    fill(file, 20, 24, 255);
+    entry_of("any settled count", 4, 48);
+    file[24] = 254;
+    fill(file, 25, 28, 255);
+    entry_of("a cost of MARK - 1", 4, 48);
+}
+
+/* The byte of a found entry of 17 steps is spoilt: 63, after 61 and before 64. */
+static void bad_byte(size_t at, uint8_t byte)
+{
+    lay(file, found(17), 64);
+    file[at] = byte;
+    no_entry("a byte of the route", 64, ROOM, FRADNUMBER_BAD_DIRECTIONS);
+    no_entry("and a room too short", 64, 16, FRADNUMBER_BAD_DIRECTIONS);
+    no_entry("and no room", 64, 0, FRADNUMBER_BAD_DIRECTIONS);
+    no_entry("and the file too short", 63, 0, FRADNUMBER_LOG_ENDS_TOO_SOON);
+    if (at < 49) not_written("a direction above 7", file + 32, 17, 0, FRADNUMBER_BAD_DIRECTIONS);
+}
+
+static void bad_routes(void)
+{
+    static const uint8_t above[4] = {8, 9, 128, 255}, filler[3] = {0, 7, 254}, norths[40] = {0};
+    size_t i, at;
+    for (i = 0; i < 4; i++)
+        for (at = 32; at < 49; at++) bad_byte(at, above[i]);
+    for (i = 0; i < 3; i++)
+        for (at = 49; at < 64; at++) bad_byte(at, filler[i]);
+    lay(file, found(17), 64);
+    for (i = 0; i < 40; i++)
+        if (i != 17) not_written("a wrong count", norths, i, 0, FRADNUMBER_BAD_DIRECTIONS);
+    lay(file, none, 32);
+    not_written("a direction for none", norths, 1, ROOM, FRADNUMBER_BAD_DIRECTIONS);
+    lay(file, refused(8), 32);
+    not_written("a direction for refused", norths, 1, ROOM, FRADNUMBER_BAD_DIRECTIONS);
+}
+
+/* What the manual says of changes to an entry of 48 bytes ("An entry of 48 bytes"): bytes changed, bytes left, the route room. */
+static void changes(void)
+{
+    static const struct { size_t from, to; uint8_t byte; size_t left, most; uint64_t refusal; } change[] = {
+        {0, 0, 0, 1, 4, 61}, {0, 0, 0, 16, 4, 61}, {0, 0, 0, 31, 4, 61}, {0, 0, 0, 32, 4, 61}, {0, 0, 0, 47, 4, 61},
+        {0, 16, 200, 48, 4, 0}, {20, 24, 255, 48, 4, 0}, {16, 17, 0, 48, 4, 62}, {16, 17, 2, 48, 4, 62}, {16, 17, 3, 48, 4, 62},
+        {17, 18, 1, 48, 4, 62}, {18, 19, 1, 48, 4, 62}, {24, 28, 255, 48, 4, 62}, {24, 28, 255, 32, 4, 62}, {28, 29, 17, 48, 17, 61},
+        {28, 29, 3, 48, 4, 63}, {28, 29, 5, 48, 5, 63}, {32, 33, 8, 48, 4, 63}, {47, 48, 0, 48, 4, 63}, {32, 33, 8, 47, 4, 61},
+        {47, 48, 0, 47, 4, 61}, {0, 0, 0, 48, 3, 64}, {32, 33, 8, 48, 3, 63}};
+    static const uint8_t entry[48] = {0, 0, 0, 0, 2, 0, 0, 0, 5, 0, 0, 0, 8, 0, 0, 0, 1, 0, 0, 0, 5, 0, 0, 0, 24, 1, 0, 0, 4, 0, 0, 0,
+                                      4, 2, 2, 0, 255, 255, 255, 255, 255, 255, 255, 255, 255, 255, 255, 255};
+    size_t i, at;
+    for (i = 0; i < sizeof change / sizeof change[0]; i++) {
+        for (at = 0; at < 48; at++) file[at] = entry[at];
+        fill(file, change[i].from, change[i].to, change[i].byte);
+        if (change[i].refusal == 0) entry_of("a change that is read", 4, 48);
+        else no_entry("a change that is refused", change[i].left, change[i].most, change[i].refusal);
+    }
+}
+
+/* Null pointers are slices of length 0. */
+static void nothing(void)
+{
+    struct fradnumber_entry entry;
+    no_entry("an empty rest", 0, ROOM, 0);
+    entry = fradnumber_read_entry(0, 0, 0, 0);
+    expect_true("no rest and no room", entry.refusal == 0 && entry.place == 0 && entry.length == 0 && entry.taken == 0);
+    lay(file, stopped, 32);
+    entry = fradnumber_read_entry(file, 32, 0, 0);
+    expect_true("no room for no route", entry.refusal == 0 && entry.taken == 32 && same(entry.answer, file + 16, 16));
+    expect_true("no directions", fradnumber_write_entry(file, file + 16, 0, 0, room, 32).length == 32 && same(room, file, 32));
+    expect_true("no directions and no room", fradnumber_write_entry(file, file + 16, 0, 0, 0, 0).refusal == FRADNUMBER_SHORT_LOG_ROOM);
+    lay(file, found(1), 48);
+    expect_true("no room for a route", fradnumber_read_entry(file, 48, 0, 0).refusal == FRADNUMBER_SHORT_LOG_ROOM);
+    expect_true("a route of no directions", fradnumber_write_entry(file, file + 16, 0, 0, room, 48).refusal == FRADNUMBER_BAD_DIRECTIONS);
+}
+
+/* Reads a file of `length` bytes in pieces of at most `piece`, writes its entries one after the other, and gives how it ended. */
+static uint64_t copy_file(size_t length, size_t piece, size_t *copied)
+{
+    struct fradnumber_entry entry;
+    size_t at = 0, left;
+    *copied = 0;
+    fill(room, 0, ROOM, OLD);
+    for (;;) {
+        left = length - at;
+        entry = fradnumber_read_entry(file + at, left < piece ? left : piece, route, FRADNUMBER_LONGEST_LOGGED);
+        if (entry.refusal != 0 || entry.taken == 0) return entry.refusal;
+        *copied += (size_t)fradnumber_write_entry(entry.question, entry.answer, route, (size_t)entry.length, room + *copied, ROOM - *copied).length;
+        at += (size_t)entry.taken;
+    }
+}
+
+/* A file cut at any byte has the entries that are whole before the cut, and breaks off there unless the cut is at an end of one. */
+static void files(void)
+{
+    size_t ends[4] = {0, 0, 0, 0}, cut, last = 0, copied;
+    uint64_t ending;
+    ends[1] = lay(file, found(4), 48);
+    ends[2] = ends[1] + lay(file + ends[1], stopped, 32);
+    ends[3] = ends[2] + lay(file + ends[2], found(17), 64);
+    for (cut = 0; cut <= ends[3]; cut++) {
+        while (last < 3 && ends[last + 1] <= cut) last++;
+        ending = copy_file(cut, ROOM, &copied);
+        expect_true("how the cut file ends", ending == (cut == ends[last] ? 0 : FRADNUMBER_LOG_ENDS_TOO_SOON));
+        expect_true("the entries before the cut", copied == ends[last] && same(room, file, copied) && all(room, copied, ROOM, OLD));
+    }
+    ends[1] = lay(file, none, 32);
+    ends[2] = ends[1] + lay(file + ends[1], found(4095), 4128);
+    ends[3] = ends[2] + lay(file + ends[2], refused(13), 32);
+    ending = copy_file(ends[3], FRADNUMBER_LONGEST_ENTRY, &copied);
+    expect_true("a file in pieces of the longest entry", ending == 0 && copied == ends[3] && same(room, file, copied));
+}
+
+/* The header's functions, by the paper's example and by numbers of four different bytes. */
+static void records(void)
+{
+    static const uint8_t asked[16] = {0, 0, 0, 0, 2, 0, 0, 0, 5, 0, 0, 0, 8, 0, 0, 0};
+    static const uint8_t answered[16] = {1, 0, 0, 0, 5, 0, 0, 0, 24, 1, 0, 0, 4, 0, 0, 0};
+    static const uint8_t numbers[16] = {4, 3, 2, 1, 255, 255, 255, 255, 0, 0, 0, 128, 8, 1, 0, 0}, not_asked[16] = {0, 13};
+    static const uint8_t unreached[16] = {2, 0, 0, 0, 1, 0, 0, 0, 255, 255, 255, 255};
+    uint8_t record[16];
+    fill(record, 0, 16, OLD);
+    fradnumber_put_question(record, 0, 2, 5, 8);
+    expect_true("case a's question", same(record, asked, 16));
+    fradnumber_put_answer(record, found(4));
+    expect_true("case a's answer", same(record, answered, 16));
+    fradnumber_put_answer(record, none);
+    expect_true("case g's answer", same(record, unreached, 16));
+    fradnumber_put_answer(record, refused(13));
+    expect_true("refused as 13", same(record, not_asked, 16));
+    fradnumber_put_question(record, 16909060, 4294967295u, 2147483648u, 264);
+    expect_true("a question of any numbers", same(record, numbers, 16));
+    expect_true("and back", fradnumber_number_at(record, 0) == 16909060 && fradnumber_number_at(record, 4) == 4294967295u
+                                && fradnumber_number_at(record, 8) == 2147483648u && fradnumber_number_at(record, 12) == 264);
+}
+
+int main(void)
+{
+    entries();
+    bad_answers();
+    bad_routes();
+    changes();
+    nothing();
+    files();
+    records();
+    return end_of_test("route log");
+}
