@@ -43,12 +43,12 @@ static int read_map_file(const char *path)
 /* A word of at most 65536 characters; 0 at the end of the file. */
 enum { MOST_LETTERS = 65536 };
 
-static int word(FILE *file, char *text)
+static inline int word(FILE *file, char *text)
 {
     return fscanf(file, "%65536s", text) == 1;
 }
 
-static int number(FILE *file, char *text, uint32_t *to)
+static inline int number(FILE *file, char *text, uint32_t *to)
 {
     return word(file, text) && number_of(text, to);
 }

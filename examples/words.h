@@ -43,12 +43,16 @@ static const char *in_words(uint64_t number)
     case FRADNUMBER_CUTS_CORNER: return "the step cuts a corner";
     case FRADNUMBER_NOT_AT_GOAL: return "the route does not end at the goal";
     case FRADNUMBER_COST_DIFFERS: return "the route costs something else";
+    case FRADNUMBER_LOG_ENDS_TOO_SOON: return "the log ends inside an entry";
+    case FRADNUMBER_BAD_ANSWER: return "the answer cannot be logged";
+    case FRADNUMBER_BAD_DIRECTIONS: return "a direction, a filler or the count of directions is wrong";
+    case FRADNUMBER_SHORT_LOG_ROOM: return "the room is too short for the route or the entry";
     default: return "no number of this header";
     }
 }
 
 /* 1 if the whole text is a number from 0 to 4294967295. */
-static int number_of(const char *text, uint32_t *number)
+static inline int number_of(const char *text, uint32_t *number)
 {
     char *end;
     unsigned long long n;

@@ -1,0 +1,39 @@
+"""Writes furnace.log to standard output: a route log of the furnace hall, laid out by hand from docs/MANUAL.md, "The route log".
+
+No part of the planner is asked. The first six entries are answers that examples/halls/furnace.answers has too; then come two of planners that keep other
+rules, and an entry that breaks off.
+"""
+import struct
+import sys
+
+REFUSED, FOUND, NONE, STOPPED = range(4)
+MARK = 2**32 - 1
+WIDTH = 48
+
+
+def cell(x, y):
+    return y * WIDTH + x
+
+
+def entry(start, goal, limit, ways, kind, settled, number, route="", refusal=0, after=b"\0\0\0"):
+    """Question, answer, and the directions filled up with 255 to records of 16 bytes; `after` is what follows the question's ways."""
+    directions = bytes(int(digit) for digit in route)
+    question = struct.pack("<IIIB3s", start, goal, limit, ways, after)
+    answer = struct.pack("<BBHIII", kind, refusal, 0, settled, number, len(directions))
+    return question + answer + directions + b"\xff" * (-len(directions) % 16)
+
+
+row = (cell(3, 12), cell(43, 12))
+walkway = entry(*row, 4096, 8, FOUND, 527, 3290, "44" + 41 * "2" + "00" + "6")
+log = [
+    walkway,
+    entry(*row, 300, 8, STOPPED, 300, 1825),
+    entry(cell(2, 20), cell(33, 18), 4096, 8, NONE, 753, MARK),
+    entry(cell(24, 15), cell(24, 15), 4096, 8, FOUND, 1, 0),
+    entry(cell(10, 4), cell(24, 15), 4096, 8, REFUSED, 0, 0, refusal=7),
+    entry(*row, 4096, 8, REFUSED, 0, 0, refusal=13, after=b"\0\0\1"),
+    entry(*row, 4096, 8, FOUND, 41, 2800, 40 * "2"),  # drops the surcharge of each warm cell
+    entry(cell(3, 11), cell(4, 10), 4096, 8, FOUND, 4, 99, "1"),  # cuts the corner of the shield
+    walkway[: 32 + 20],
+]
+sys.stdout.buffer.write(b"".join(log))
