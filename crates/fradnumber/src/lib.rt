@@ -7,7 +7,7 @@ ghost use Rattle.maptext.specs.Calls.{readNumbers, ReadCalled, WriteCalled};
 ghost use Rattle.claims.specs.Route.{claim, routeVerdict, packed};
 ghost use Rattle.claims.specs.Table.{tableVerdict, asFault};
 ghost use Rattle.search.specs.Search.{question, rooms, Called};
-ghost use Rattle.routelog.specs.Entry.{entryOf};
+ghost use Rattle.logentries.specs.Entry.{entryOf};
 ghost use Rattle.routelog.specs.Calls as log;
 use maptext::ReadNumbers;
 use maptext::WrittenNumbers;

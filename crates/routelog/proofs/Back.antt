@@ -10,10 +10,10 @@ use lib.ListN.{length, take, drop, replicate, length-append, length-replicate}
 use lib.Seq.{take-at, drop-at, drop-drop}
 use Rattle.paths.proofs.Bools.{T-and}
 use Rattle.recordlayout.specs.Record.{recordSize}
-use Rattle.routelog.specs.Entry.{Entry, entryOf, routeSize, filler, routeBytes, entryBytes, greatestLength, stepsIn, allFiller, IsEntry}
+use Rattle.logentries.specs.Entry.{Entry, entryOf, routeSize, filler, routeBytes, entryBytes, greatestLength, stepsIn, allFiller, IsEntry}
 use Rattle.routelog.specs.Reading.{questionAt, answerAt, routeAt, entryAt, entry, readingOf}
-use Rattle.routelog.proofs.Answers.{steps-few}
-use Rattle.routelog.proofs.Sizes.{size-holds}
+use Rattle.logentries.proofs.Answers.{steps-few}
+use Rattle.logentries.proofs.Sizes.{size-holds}
 use Rattle.routelog.proofs.Passing.{Passes, pass}
 use Rattle.routelog.proofs.Taking.{reading-judged}
 

@@ -11,7 +11,7 @@ use Rattle.routelog.specs.declared.EntryRead.{EntryRead}
 use Rattle.routelog.specs.declared.EntryNumbers.{EntryNumbers}
 use Rattle.routelog.specs.declared.EntryWritten.{EntryWritten}
 use Rattle.routelog.specs.declared.EntryWrittenNumbers.{EntryWrittenNumbers}
-use Rattle.routelog.specs.Entry.{Entry}
+use Rattle.logentries.specs.Entry.{Entry}
 use Rattle.routelog.specs.Reading.{Reading, empty, refused, entry, readingOf, numbersOf, IsRead}
 use Rattle.routelog.specs.Writing as writes
 use Rattle.routelog.specs.Writing.{writtenFor, IsWritten}

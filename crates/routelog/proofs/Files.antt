@@ -7,7 +7,7 @@ use lib.ListN.{length, drop, length-drop}
 use lib.Seq.{drop-append-seam}
 use Rattle.floor.specs.declared.Screen.{Screen}
 use Rattle.floor.specs.declared.Screen.the-variants.{Passed, Refused}
-use Rattle.routelog.specs.Entry.{Entry, entryBytes}
+use Rattle.logentries.specs.Entry.{Entry, entryBytes}
 use Rattle.routelog.specs.Reading.{Reading, empty, refused, entry, readingOf}
 use Rattle.routelog.specs.File.{fileBytes, Log, logWith, restAfter, andThen, entriesOf, logOf, AllEntries}
 use Rattle.routelog.proofs.Taking.{reading-empty}

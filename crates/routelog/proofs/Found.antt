@@ -11,9 +11,9 @@ use Rattle.floor.specs.declared.Screen.{Screen}
 use Rattle.floor.specs.declared.Screen.the-variants.{Passed, Refused}
 use Rattle.floor.specs.Refusal.{screen}
 use Rattle.recordlayout.specs.Record.{recordSize}
-use Rattle.routelog.specs.Entry.{Entry, routeSize, filler, routeBytes, entryBytes, stepsIn, IsEntry}
+use Rattle.logentries.specs.Entry.{Entry, routeSize, filler, routeBytes, entryBytes, stepsIn, IsEntry}
 use Rattle.routelog.specs.Reading.{answerAt, routeAt, entryAt, readLines, empty, entry, afterLines, readingOf}
-use Rattle.routelog.proofs.Sizes.{size-holds}
+use Rattle.logentries.proofs.Sizes.{size-holds}
 use Rattle.routelog.proofs.Passing.{Passes, passes, question-length, answer-length, steps-there, bytes-taken}
 use Rattle.routelog.proofs.Taking.{reading-judged}
 use Rattle.routelog.proofs.Back.{all-filler}

@@ -8,7 +8,7 @@ use lib.ListN.{length, take, drop}
 use Rattle.floor.specs.declared.Screen.the-variants.{Passed, Refused}
 use Rattle.floor.specs.Refusal.{screen}
 use Rattle.recordlayout.specs.Record.{recordSize}
-use Rattle.routelog.specs.Entry.{routeSize, canBeLogged, stepsIn, allDirections, allFiller}
+use Rattle.logentries.specs.Entry.{routeSize, canBeLogged, stepsIn, allDirections, allFiller}
 use Rattle.routelog.specs.Reading.{answerAt, routeAt, routeLines, readLines}
 
 module _ (bytes : List ℕ) (n room : ℕ) where

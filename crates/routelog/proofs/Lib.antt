@@ -1,6 +1,3 @@
-pub mod Bytes
-pub mod Answers
-pub mod Sizes
 pub mod Judging
 pub mod Passing
 pub mod Taking

@@ -12,7 +12,7 @@ use Rattle.search.specs.declared.Answer.the-variants.{Found, None, Stopped}
 use Rattle.search.specs.Search.{numbersOf}
 use Rattle.recordlayout.specs.Record.{recordOf, answerIn}
 use Rattle.recordlayout.proofs.Records.{number-back}
-use Rattle.routelog.specs.Entry.{entryOf, routeSize, routeBytes, entryBytes, greatestRefusal, greatestLength, kindFits, canBeLogged, stepsIn}
+use Rattle.logentries.specs.Entry.{entryOf, routeSize, routeBytes, entryBytes, greatestRefusal, greatestLength, kindFits, canBeLogged, stepsIn}
 
 -- a refusal up to 15, a found cost that isn't MARK with a route up to 4,095, none, a floor that isn't MARK; any settled count
 pub data CanLog : Answer → Type 0 where

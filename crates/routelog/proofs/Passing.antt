@@ -12,9 +12,9 @@ use Rattle.floor.specs.declared.Screen.the-variants.{Passed}
 use Rattle.floor.specs.Refusal.{screen}
 use Rattle.floor.proofs.Screens.{none-given}
 use Rattle.recordlayout.specs.Record.{recordSize}
-use Rattle.routelog.specs.Entry.{routeSize, entryBytes, canBeLogged, stepsIn, allDirections, allFiller}
+use Rattle.logentries.specs.Entry.{routeSize, entryBytes, canBeLogged, stepsIn, allDirections, allFiller}
 use Rattle.routelog.specs.Reading.{questionAt, answerAt, routeAt, entryAt, readLines}
-use Rattle.routelog.proofs.Sizes.{size-holds, entry-length}
+use Rattle.logentries.proofs.Sizes.{size-holds, entry-length}
 use Rattle.routelog.proofs.Judging.{by-route, route-passes}
 
 pub record Passes (rest : List ℕ) (room : ℕ) : Type 0 where

@@ -8,7 +8,7 @@ use Rattle.routelog.specs.declared.Outcome.the-variants.{Empty, Logged}
 use Rattle.routelog.specs.declared.EntryRead.{EntryRead}
 use Rattle.routelog.specs.declared.EntryWritten.{EntryWritten}
 use Rattle.routelog.specs.declared.EntryWritten.the-variants.{Length}
-use Rattle.routelog.specs.Entry.{Entry}
+use Rattle.logentries.specs.Entry.{Entry}
 use Rattle.routelog.specs.Reading as reading
 use Rattle.routelog.specs.Reading.{Reading, ReadAs}
 use Rattle.routelog.specs.Writing as writing

@@ -15,13 +15,13 @@ use Rattle.floor.specs.Numbers.{Numbers}
 use Rattle.recordlayout.specs.Record.{recordSize}
 use Rattle.routelog.specs.declared.Outcome.{Outcome}
 use Rattle.routelog.specs.declared.EntryWritten.{EntryWritten}
-use Rattle.routelog.specs.Entry.{Entry, entryBytes, routeSize, filler, canBeLogged, stepsIn, allDirections, allFiller}
+use Rattle.logentries.specs.Entry.{Entry, entryBytes, routeSize, filler, canBeLogged, stepsIn, allDirections, allFiller}
 use Rattle.routelog.specs.Reading.{answerAt, routeAt, routeLines, readLines, Reading, empty, refused, entry, readingOf, numbersOf, outcomeFor}
 use Rattle.routelog.specs.Writing as writes
 use Rattle.routelog.specs.Writing.{partLines, writeLines, writtenFor}
 use Rattle.routelog.specs.Refusals.{WrongByte, HasRecords, HasRoute, ReaderRefuses, WriterRefuses}
-use Rattle.routelog.proofs.Bytes.{within-at, outside}
-use Rattle.routelog.proofs.Sizes.{size-holds}
+use Rattle.logentries.proofs.Bytes.{within-at, outside}
+use Rattle.logentries.proofs.Sizes.{size-holds}
 use Rattle.routelog.proofs.Judging as judging
 use Rattle.routelog.proofs.Taking.{reading-empty, reading-judged}
 use Rattle.routelog.proofs.Writing as writing

@@ -14,7 +14,7 @@ use Rattle.routelog.specs.declared.Outcome.the-variants.{Logged}
 use Rattle.routelog.specs.declared.EntryRead.{EntryRead}
 use Rattle.routelog.specs.declared.EntryWritten.{EntryWritten}
 use Rattle.routelog.specs.declared.EntryWritten.the-variants.{Length}
-use Rattle.routelog.specs.Entry.{Entry, entryOf, entryBytes, canBeLogged, allDirections, IsEntry}
+use Rattle.logentries.specs.Entry.{Entry, entryOf, entryBytes, canBeLogged, allDirections, IsEntry}
 use Rattle.routelog.specs.Reading as reading
 use Rattle.routelog.specs.Reading.{Reading, empty, refused, entry, readingOf, outcomeFor, ReadAs, IsRead}
 use Rattle.routelog.specs.Writing as writing

@@ -31,7 +31,7 @@ use Rattle.search.proofs.Lending.{search-question}
 use Rattle.recordlayout.specs.Record.{recordSize, recordOf}
 use Rattle.recordlayout.proofs.Records.{record-length}
 use Rattle.routelog.specs.declared.EntryWritten.{EntryWritten}
-use Rattle.routelog.specs.Entry.{Entry, entryOf, greatestLength, canBeLogged, allDirections, IsEntry}
+use Rattle.logentries.specs.Entry.{Entry, entryOf, greatestLength, canBeLogged, allDirections, IsEntry}
 use Rattle.routelog.specs.Writing.{IsWritten}
 use Rattle.routelog.proofs.Writing.{count-wrong, written-refused}
 use Rattle.routelog.proofs.Promises.{one-written}

@@ -14,7 +14,7 @@ use Rattle.recordlayout.specs.Record.{recordSize}
 use Rattle.routelog.specs.declared.Outcome.{Outcome}
 use Rattle.routelog.specs.declared.Outcome.the-variants.{Empty, Logged}
 use Rattle.routelog.specs.declared.EntryRead.{EntryRead}
-use Rattle.routelog.specs.Entry.{routeSize, stepsIn}
+use Rattle.logentries.specs.Entry.{routeSize, stepsIn}
 use Rattle.routelog.specs.Reading.{questionAt, answerAt, routeAt, entryAt, readLines, empty, refused, entry, afterLines, readingOf, noEntry, ReadAs, IsRead}
 use Rattle.routelog.proofs.Passing.{Passes, steps-there, bytes-taken}
 

@@ -11,10 +11,10 @@ use lib.ListN.{length, take, drop, length-append}
 use lib.Seq.{take-append-add, take-append-le, drop-append-seam, length-take-le}
 use Rattle.paths.proofs.Bools.{T-true, eq-T, same-test}
 use Rattle.recordlayout.specs.Record.{recordSize}
-use Rattle.routelog.specs.Entry.{Entry, routeSize, routeBytes, entryBytes, canBeLogged, stepsIn, IsEntry}
+use Rattle.logentries.specs.Entry.{Entry, routeSize, routeBytes, entryBytes, canBeLogged, stepsIn, IsEntry}
 use Rattle.routelog.specs.Reading.{refused, readingOf}
 use Rattle.routelog.specs.File.{fileBytes, logWith, logOf, AllEntries, wholeBefore, cutEnding}
-use Rattle.routelog.proofs.Sizes.{route-length, entry-length}
+use Rattle.logentries.proofs.Sizes.{route-length, entry-length}
 use Rattle.routelog.proofs.Judging.{head-ends, by-route, route-ends}
 use Rattle.routelog.proofs.Taking.{reading-judged}
 use Rattle.routelog.proofs.Back.{parted, read-bytes}

@@ -15,10 +15,10 @@ use Rattle.floor.specs.declared.Screen.the-variants.{Passed, Refused}
 use Rattle.floor.specs.Refusal.{screen}
 use Rattle.recordlayout.specs.Record.{recordSize}
 use Rattle.routelog.specs.declared.EntryRead.{EntryRead}
-use Rattle.routelog.specs.Entry.{routeSize, greatestLength, greatestEntry, canBeLogged, stepsIn}
-use Rattle.routelog.specs.Reading.{answerAt, routeAt, entryAt, routeLines, readLines, entry, afterLines, readingOf, IsRead}
-use Rattle.routelog.proofs.Answers.{steps-few}
-use Rattle.routelog.proofs.Sizes.{size-holds, sizes-rise}
+use Rattle.logentries.specs.Entry.{routeSize, greatestLength, canBeLogged, stepsIn}
+use Rattle.routelog.specs.Reading.{answerAt, routeAt, entryAt, routeLines, readLines, entry, afterLines, readingOf, greatestEntry, IsRead}
+use Rattle.logentries.proofs.Answers.{steps-few}
+use Rattle.logentries.proofs.Sizes.{size-holds, sizes-rise}
 use Rattle.routelog.proofs.Judging.{wrong-answer, by-route}
 use Rattle.routelog.proofs.Passing.{passes}
 use Rattle.routelog.proofs.Taking.{reading-judged}

@@ -17,9 +17,9 @@ use Rattle.putting.specs.Put.{IsPut}
 use Rattle.putting.proofs.Puts.{sets-whole}
 use Rattle.routelog.specs.declared.EntryWritten.{EntryWritten}
 use Rattle.routelog.specs.declared.EntryWritten.the-variants.{Length}
-use Rattle.routelog.specs.Entry.{Entry, entryBytes, greatestLength, canBeLogged, stepsIn, allDirections}
+use Rattle.logentries.specs.Entry.{Entry, entryBytes, greatestLength, canBeLogged, stepsIn, allDirections}
 use Rattle.routelog.specs.Writing.{partLines, writeLines, IsWritten}
-use Rattle.routelog.proofs.Answers.{steps-few}
+use Rattle.logentries.proofs.Answers.{steps-few}
 
 module _ (a ds : List ℕ) where
   pub answer-wrong : canBeLogged a ≡ false → screen (partLines a ds) ≡ Refused 62 0

@@ -8,7 +8,7 @@ use Rattle.floor.specs.Numbers.{Numbers, refused, fault, gives}
 use Rattle.floor.specs.Refusal.{screen}
 use Rattle.routelog.specs.declared.EntryNumbers.{EntryNumbers}
 use Rattle.routelog.specs.declared.EntryWrittenNumbers.{EntryWrittenNumbers}
-use Rattle.routelog.specs.Entry.{Entry}
+use Rattle.logentries.specs.Entry.{Entry}
 use Rattle.routelog.specs.Reading.{Reading, readingOf, outcomeFor, questionFor, answerFor, routeLeft}
 use Rattle.routelog.specs.Writing.{writeLines, writtenFor, entryLeft}
 

@@ -6,7 +6,7 @@ use lib.Dec.{leb, eqb}
 use lib.ListN.{length, drop}
 use Rattle.floor.specs.declared.Screen.{Screen}
 use Rattle.floor.specs.declared.Screen.the-variants.{Passed, Refused}
-use Rattle.routelog.specs.Entry.{Entry, entryBytes, IsEntry}
+use Rattle.logentries.specs.Entry.{Entry, entryBytes, IsEntry}
 use Rattle.routelog.specs.Reading.{Reading, empty, refused, entry, readingOf}
 
 -- the bytes of a list of entries

@@ -1,4 +1,3 @@
-pub mod Entry
 pub mod Reading
 pub mod Writing
 pub mod File

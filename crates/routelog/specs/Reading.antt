@@ -13,7 +13,7 @@ use Rattle.recordlayout.specs.Record.{recordSize}
 use Rattle.routelog.specs.declared.Outcome.{Outcome}
 use Rattle.routelog.specs.declared.Outcome.the-variants.{Empty, Logged}
 use Rattle.routelog.specs.declared.EntryRead.{EntryRead}
-use Rattle.routelog.specs.Entry.{Entry, entryOf, entryBytes, routeSize, canBeLogged, stepsIn, allDirections, allFiller}
+use Rattle.logentries.specs.Entry.{Entry, entryOf, entryBytes, routeSize, greatestLength, canBeLogged, stepsIn, allDirections, allFiller}
 
 -- where question, answer and route stand in the rest of a file
 abbrev pub questionAt : List ℕ → List ℕ
@@ -56,6 +56,10 @@ afterLines (Refused n p) rest = refused n p
 -- the reading of the rest of a file: it is empty, it is refused, or it begins with an entry
 unfoldable pub readingOf : List ℕ → ℕ → Reading
 readingOf rest room = cond (eqb (length rest) 0) empty (afterLines (screen (readLines rest room)) rest)
+
+-- the bytes of the longest entry: a reading needs no more of the rest
+abbrev pub greatestEntry : ℕ
+greatestEntry = recordSize + recordSize + routeSize greatestLength
 
 -- the paper's numbers of each case: none if the rest is empty, the refusal, or the route's length and how many bytes the entry took
 abbrev pub numbersOf : Outcome → Numbers

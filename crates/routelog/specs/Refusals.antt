@@ -6,7 +6,7 @@ use mathlib.Core.List.{List}
 use Prim.Native.Nat.{ℕ, _+_, _≤_, _<_}
 use lib.ListN.{length, getD}
 use Rattle.recordlayout.specs.Record.{recordSize}
-use Rattle.routelog.specs.Entry.{Entry, entryBytes, routeSize, filler, canBeLogged, stepsIn}
+use Rattle.logentries.specs.Entry.{Entry, entryBytes, routeSize, filler, canBeLogged, stepsIn}
 use Rattle.routelog.specs.Reading.{answerAt, routeAt}
 
 -- among the bytes of a route of n directions: a direction above 7, or a wrong filler

@@ -11,7 +11,7 @@ use Rattle.floor.specs.Refusal.{Line, line, screen}
 use Rattle.floor.specs.Numbers.{Numbers, refused, gives, afterScreen}
 use Rattle.routelog.specs.declared.EntryWritten.{EntryWritten}
 use Rattle.routelog.specs.declared.EntryWritten.the-variants.{Length}
-use Rattle.routelog.specs.Entry.{Entry, entryBytes, canBeLogged, stepsIn, allDirections}
+use Rattle.logentries.specs.Entry.{Entry, entryBytes, canBeLogged, stepsIn, allDirections}
 
 -- 62: the answer can't be logged; 63: a wrong count of directions (any, if not found), or one above 7
 abbrev pub partLines : List ℕ → List ℕ → List Line

@@ -1,7 +1,6 @@
-// The route log: 02, R-1. specs/Entry.antt says what an entry is and which answers can be logged, specs/Reading.antt what the rest of a file reads as,
-// specs/Writing.antt what is written, specs/File.antt what a whole file reads as. What stands in a record is in `recordlayout`.
+// The route log: 02, R-1. specs/Reading.antt says what the rest of a file reads as, specs/Writing.antt what is written, specs/File.antt what a whole
+// file reads as. What an entry is, and which answers can be logged, is in `logentries`; what stands in a record in `recordlayout`.
 
-mod entries; // entries.rt: what the reader and the writer ask of an entry
 mod reader; // reader.rt: one entry from the rest of a file
 mod writer; // writer.rt: one entry into a room
 

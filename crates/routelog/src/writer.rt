@@ -5,31 +5,20 @@ ghost use lib.ListN.{length};
 ghost use Rattle.floor.specs.Refusal.{screen};
 ghost use Rattle.putting.specs.Put.{IsPut};
 ghost use Rattle.recordlayout.specs.Record.{recordSize};
-ghost use Rattle.routelog.specs.Entry.{greatestLength, entryOf, routeSize, routeBytes, entryBytes};
+ghost use Rattle.logentries.specs.Entry.{greatestLength, entryOf, routeSize, routeBytes, entryBytes};
 ghost use Rattle.routelog.specs.Writing.{partLines, numbersOf, IsWritten};
 ghost use Rattle.routelog.specs.Calls.{writtenNumbers, WriteCalled};
 use crate::EntryWritten;
 use crate::EntryWrittenNumbers;
-use crate::entries::FILLER;
-use crate::entries::GREATEST_DIRECTION;
-use crate::entries::all_within;
-use crate::entries::can_be_logged;
-use crate::entries::route_size;
 use floor::Screen;
-use putting::fill;
+use logentries::GREATEST_DIRECTION;
+use logentries::all_within;
+use logentries::can_be_logged;
+use logentries::put_route;
+use logentries::route_size;
 use putting::put;
 use recordlayout::RECORD_SIZE;
 use recordlayout::fields::numbers_in;
-
-fn put_route(directions: &[u8], room: &mut [u8], at: usize) -> usize
-    requires { ⌜ (length (now directions) ≤ greatestLength) × (at + routeSize (length (now directions)) ≤ length (now room)) ⌝ }
-    ensures { λ r. ⌜ IsPut (routeBytes (now (directions .entry))) (now (room .entry)) at r (now (room .exit)) ⌝ }
-{
-    let count = directions.len();
-    let left = route_size(count) - count;
-    let end = put(directions, room, at);
-    fill(FILLER, left, room, end)
-}
 
 fn put_entry(question: &[u8], answer: &[u8], directions: &[u8], room: &mut [u8]) -> usize
     requires { ⌜ (length (now directions) ≤ greatestLength) × (length (entryBytes (entryOf (now question) (now answer) (now directions))) ≤ length (now room)) ⌝ }

@@ -11,7 +11,7 @@ use Rattle.floor.specs.Place.{cells}
 use Rattle.search.specs.declared.Answer.{Answer}
 use Rattle.search.specs.Search.{Rooms, numbersOf}
 use Rattle.recordlayout.specs.Record.{recordSize, questionIn, waysIn, recordOf}
-use Rattle.routelog.specs.Entry.{entryOf, stepsIn, IsEntry}
+use Rattle.logentries.specs.Entry.{entryOf, stepsIn, IsEntry}
 use Rattle.routelog.proofs.Logging.{refused, answer-logged}
 use Rattle.routelog.proofs.Searches.{Logs, searched-logs, logs-entry}
 use Rattle.routelog.proofs.Files.{log-written, log-back, same-bytes}

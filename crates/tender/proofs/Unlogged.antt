@@ -12,7 +12,7 @@ use Rattle.routelog.specs.declared.EntryRead.{EntryRead}
 use Rattle.routelog.specs.declared.EntryNumbers.{EntryNumbers}
 use Rattle.routelog.specs.declared.EntryWritten.{EntryWritten}
 use Rattle.routelog.specs.declared.EntryWrittenNumbers.{EntryWrittenNumbers}
-use Rattle.routelog.specs.Entry.{Entry}
+use Rattle.logentries.specs.Entry.{Entry}
 use Rattle.routelog.specs.Reading.{Reading, refused, readingOf, routeLeft, IsRead}
 use Rattle.routelog.specs.Writing.{writeLines, entryLeft, IsWritten}
 use Rattle.routelog.specs.Refusals.{ReaderRefuses, WriterRefuses}

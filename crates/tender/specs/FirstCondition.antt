@@ -36,7 +36,7 @@ use Rattle.routelog.specs.declared.EntryRead.{EntryRead}
 use Rattle.routelog.specs.declared.EntryNumbers.{EntryNumbers}
 use Rattle.routelog.specs.declared.EntryWritten.{EntryWritten}
 use Rattle.routelog.specs.declared.EntryWrittenNumbers.{EntryWrittenNumbers}
-use Rattle.routelog.specs.Entry.{Entry}
+use Rattle.logentries.specs.Entry.{Entry}
 use Rattle.routelog.specs.Reading as log-read
 use Rattle.routelog.specs.Writing as log-written
 use Rattle.routelog.specs.Calls as log-calls

@@ -16,8 +16,8 @@ use Rattle.routelog.specs.declared.EntryNumbers.{EntryNumbers}
 use Rattle.routelog.specs.declared.EntryWritten.{EntryWritten}
 use Rattle.routelog.specs.declared.EntryWritten.the-variants.{Length}
 use Rattle.routelog.specs.declared.EntryWrittenNumbers.{EntryWrittenNumbers}
-use Rattle.routelog.specs.Entry.{Entry, entryOf, greatestEntry, IsEntry}
-use Rattle.routelog.specs.Reading.{readingOf, IsRead}
+use Rattle.logentries.specs.Entry.{Entry, entryOf, IsEntry}
+use Rattle.routelog.specs.Reading.{readingOf, greatestEntry, IsRead}
 use Rattle.routelog.specs.Writing.{IsWritten}
 use Rattle.routelog.specs.File.{fileBytes, logWith, logOf, AllEntries, wholeBefore, cutEnding}
 use Rattle.desk.specs.Use.{greatestUsedCells}

@@ -8,9 +8,9 @@ use borrow.Author.Needs.{needs}
 use Rattle.paths.proofs.Bools.{true-T}
 use Rattle.search.specs.declared.AnswerNumbers.{AnswerNumbers}
 use Rattle.recordlayout.specs.Record.{recordSize, answerIn}
-use Rattle.routelog.specs.Entry.{canBeLogged, stepsIn}
+use Rattle.logentries.specs.Entry.{canBeLogged, stepsIn}
 use Rattle.routelog.specs.Reading.{answerAt}
-use Rattle.routelog.proofs.Answers.{steps-few}
+use Rattle.logentries.proofs.Answers.{steps-few}
 use Rattle.routelog.proofs.Judging.{head-ends, wrong-answer, by-route}
 use Rattle.routelog.proofs.reader.judge_entry.Statement.{statement}
 use Rattle.routelog.proofs.reader.judge_entry.Tie as tie

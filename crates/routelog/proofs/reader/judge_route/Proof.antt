@@ -5,8 +5,8 @@ use Prim.Native.Nat.{ℕ, _-_, _≤_}
 use native.Mathlib.Omega.{arith}
 use borrow.Author.Needs.{needs}
 use lib.ListN.{length, take, drop}
-use Rattle.routelog.specs.Entry.{routeSize, allDirections, allFiller}
-use Rattle.routelog.proofs.Sizes.{size-holds}
+use Rattle.logentries.specs.Entry.{routeSize, allDirections, allFiller}
+use Rattle.logentries.proofs.Sizes.{size-holds}
 use Rattle.routelog.proofs.Judging.{route-ends, wrong-direction, wrong-filler, room-short, route-passes}
 use Rattle.routelog.proofs.reader.judge_route.Statement.{statement}
 use Rattle.routelog.proofs.reader.judge_route.Tie as tie

@@ -6,10 +6,10 @@ use borrow.Author.Needs.{needs}
 use lib.ListN.{length, length-drop}
 use Rattle.search.specs.declared.AnswerNumbers.{AnswerNumbers}
 use Rattle.recordlayout.specs.Record.{recordSize, answerIn}
-use Rattle.routelog.specs.Entry.{greatestLength, stepsIn}
+use Rattle.logentries.specs.Entry.{greatestLength, stepsIn}
 use Rattle.routelog.specs.Reading.{answerAt}
-use Rattle.routelog.proofs.Sizes.{size-holds}
-use Rattle.routelog.proofs.Answers.{steps-few}
+use Rattle.logentries.proofs.Sizes.{size-holds}
+use Rattle.logentries.proofs.Answers.{steps-few}
 use Rattle.routelog.proofs.Passing.{Passes, passes, steps-there}
 use Rattle.routelog.proofs.Taking.{taken}
 use Rattle.routelog.proofs.reader.take_entry.Statement.{statement}

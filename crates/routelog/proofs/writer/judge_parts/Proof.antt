@@ -4,7 +4,7 @@ use mathlib.Core.Bool.{true}
 use native.Mathlib.Omega.{arith}
 use borrow.Author.Needs.{needs}
 use Rattle.search.specs.declared.AnswerNumbers.{AnswerNumbers}
-use Rattle.routelog.specs.Entry.{canBeLogged, stepsIn}
+use Rattle.logentries.specs.Entry.{canBeLogged, stepsIn}
 use Rattle.routelog.proofs.Writing.{answer-wrong, count-wrong, direction-wrong, parts-pass}
 use Rattle.routelog.proofs.writer.judge_parts.Statement.{statement}
 use Rattle.routelog.proofs.writer.judge_parts.Tie as tie

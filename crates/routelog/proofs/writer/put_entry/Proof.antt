@@ -4,8 +4,8 @@ use native.Mathlib.Omega.{arith}
 use borrow.Author.Needs.{needs}
 use lib.ListN.{length}
 use Rattle.putting.proofs.Puts.{put-both}
-use Rattle.routelog.specs.Entry.{entryOf, routeSize, entryBytes}
-use Rattle.routelog.proofs.Sizes.{entry-length}
+use Rattle.logentries.specs.Entry.{entryOf, routeSize, entryBytes}
+use Rattle.logentries.proofs.Sizes.{entry-length}
 use Rattle.routelog.proofs.writer.put_entry.Statement.{statement}
 use Rattle.routelog.proofs.writer.put_entry.Tie as tie
 

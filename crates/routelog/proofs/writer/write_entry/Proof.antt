@@ -7,9 +7,9 @@ use lib.ListN.{length}
 use Rattle.floor.specs.declared.Screen.the-variants.{Passed}
 use Rattle.floor.specs.Refusal.{screen}
 use Rattle.recordlayout.specs.Record.{recordSize}
-use Rattle.routelog.specs.Entry.{entryOf, entryBytes}
+use Rattle.logentries.specs.Entry.{entryOf, entryBytes}
 use Rattle.routelog.specs.Writing.{partLines}
-use Rattle.routelog.proofs.Sizes.{size-holds, entry-length}
+use Rattle.logentries.proofs.Sizes.{size-holds, entry-length}
 use Rattle.routelog.proofs.Writing.{PartsPass, parts-known, directions-few, written-refused, written-short, written-whole}
 use Rattle.routelog.proofs.writer.write_entry.Statement.{statement}
 use Rattle.routelog.proofs.writer.write_entry.Tie as tie

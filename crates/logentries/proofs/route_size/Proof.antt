@@ -1,9 +1,9 @@
 -- The code is the definition; nothing wraps, since a route is short.
 use mathlib.Core.Path.{refl}
 use borrow.Author.Needs.{needs}
-use Rattle.routelog.specs.Entry.{routeSize}
-use Rattle.routelog.proofs.entries.route_size.Statement.{statement}
-use Rattle.routelog.proofs.entries.route_size.Tie as tie
+use Rattle.logentries.specs.Entry.{routeSize}
+use Rattle.logentries.proofs.route_size.Statement.{statement}
+use Rattle.logentries.proofs.route_size.Tie as tie
 
 sub-result : tie.Need-sub-result
 sub-result c = search needs

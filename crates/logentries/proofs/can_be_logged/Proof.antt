@@ -4,9 +4,9 @@ use native.Mathlib.Omega.{arith}
 use borrow.Rule.Slice.PartAt.{part-to-end}
 use borrow.Author.Needs.{needs}
 use Rattle.recordlayout.specs.Record.{allZero}
-use Rattle.routelog.proofs.Answers.{no-refusal, greater-refusal, zeros-after, no-zeros, by-kind}
-use Rattle.routelog.proofs.entries.can_be_logged.Statement.{statement}
-use Rattle.routelog.proofs.entries.can_be_logged.Tie as tie
+use Rattle.logentries.proofs.Answers.{no-refusal, greater-refusal, zeros-after, no-zeros, by-kind}
+use Rattle.logentries.proofs.can_be_logged.Statement.{statement}
+use Rattle.logentries.proofs.can_be_logged.Tie as tie
 
 numbers-in-requires : tie.Need-numbers-in-requires
 numbers-in-requires c κs = search needs

@@ -11,7 +11,7 @@ use lib.Dec.{leb, leb→le}
 use lib.ListN.{length, getD, drop, drop-of-length-le}
 use lib.Seq.{drop-cons}
 use Rattle.paths.proofs.Bools.{T-true, true-T, T-and}
-use Rattle.routelog.specs.Entry.{allWithin}
+use Rattle.logentries.specs.Entry.{allWithin}
 
 module _ (least greatest : ℕ) (bytes : List ℕ) (i : ℕ) where
   pub within-here : i < length bytes → least ≤ getD bytes i 0 → getD bytes i 0 ≤ greatest

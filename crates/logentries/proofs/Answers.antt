@@ -14,7 +14,7 @@ use Rattle.paths.proofs.Bools.{T-and}
 use Rattle.search.specs.declared.AnswerNumbers.{AnswerNumbers}
 use Rattle.recordlayout.specs.Record.{numberAt, allZero, answerIn}
 use Rattle.recordlayout.proofs.Zeros.{zero-at}
-use Rattle.routelog.specs.Entry.{greatestRefusal, greatestLength, refusalFits, kindFits, canBeLogged, stepsIn}
+use Rattle.logentries.specs.Entry.{greatestRefusal, greatestLength, refusalFits, kindFits, canBeLogged, stepsIn}
 
 module _ (a : List ℕ) {n : AnswerNumbers} (read : n ≡ answerIn a) where
   module _ (refused : n .kind ≡ 0) where

@@ -3,10 +3,10 @@ use native.Mathlib.Omega.{arith}
 use borrow.Author.Needs.{needs}
 use lib.ListN.{length}
 use Rattle.putting.proofs.Puts.{put-both}
-use Rattle.routelog.specs.Entry.{routeBytes}
-use Rattle.routelog.proofs.Sizes.{size-holds}
-use Rattle.routelog.proofs.writer.put_route.Statement.{statement}
-use Rattle.routelog.proofs.writer.put_route.Tie as tie
+use Rattle.logentries.specs.Entry.{routeBytes}
+use Rattle.logentries.proofs.Sizes.{size-holds}
+use Rattle.logentries.proofs.put_route.Statement.{statement}
+use Rattle.logentries.proofs.put_route.Tie as tie
 
 route-size-requires : tie.Need-route-size-requires
 route-size-requires c κs = search needs

@@ -37,10 +37,6 @@ greatestRefusal = 15
 abbrev pub greatestLength : ℕ
 greatestLength = 4095
 
--- the bytes of the longest entry
-abbrev pub greatestEntry : ℕ
-greatestEntry = recordSize + recordSize + routeSize greatestLength
-
 -- a refusal number from 1 to 15
 abbrev pub refusalFits : ℕ → Bool
 refusalFits n = ltb 0 n && leb n greatestRefusal

@@ -1,9 +1,9 @@
 -- Each return decides the tests of `kindFits`: the kind that was found, and then its number.
 use borrow.Author.Tests.{ne-eqb}
 use borrow.Author.Needs.{needs}
-use Rattle.routelog.specs.Entry.{kindFits}
-use Rattle.routelog.proofs.entries.kind_fits.Statement.{statement}
-use Rattle.routelog.proofs.entries.kind_fits.Tie as tie
+use Rattle.logentries.specs.Entry.{kindFits}
+use Rattle.logentries.proofs.kind_fits.Statement.{statement}
+use Rattle.logentries.proofs.kind_fits.Tie as tie
 
 cast-if2 : tie.Need-cast-if2
 cast-if2 c = search needs

@@ -3,10 +3,10 @@ use mathlib.Core.Path.{_≡_, refl, sym, _∙_}
 use Prim.Native.Nat.{_-_, _≤_}
 use native.Mathlib.Omega.{arith}
 use lib.ListN.{length, drop}
-use Rattle.routelog.specs.Entry.{allWithin}
-use Rattle.routelog.proofs.Bytes.{within-here, below-here, above-here, none-left}
-use Rattle.routelog.proofs.entries.all_within.Statement.{statement}
-use Rattle.routelog.proofs.entries.all_within.Tie as tie
+use Rattle.logentries.specs.Entry.{allWithin}
+use Rattle.logentries.proofs.Bytes.{within-here, below-here, above-here, none-left}
+use Rattle.logentries.proofs.all_within.Statement.{statement}
+use Rattle.logentries.proofs.all_within.Tie as tie
 
 abbrev Inv-loop : tie.InvT-loop
 Inv-loop least greatest bytes i₀ i = (i ≤ length bytes) × (allWithin least greatest bytes ≡ allWithin least greatest (drop i bytes))

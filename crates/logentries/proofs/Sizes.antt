@@ -6,7 +6,7 @@ use native.Mathlib.Nat.{div-add-mod', mod-lt}
 use native.Mathlib.Omega.{arith}
 use lib.ListN.{length, replicate, length-append, length-replicate}
 use Rattle.recordlayout.specs.Record.{recordSize}
-use Rattle.routelog.specs.Entry.{Entry, routeSize, filler, routeBytes, entryBytes}
+use Rattle.logentries.specs.Entry.{Entry, routeSize, filler, routeBytes, entryBytes}
 
 -- the records hold the directions, and one record less would not
 pub size-holds : (n : ℕ) → (n ≤ routeSize n) × (routeSize n < n + recordSize)

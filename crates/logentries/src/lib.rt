@@ -1,27 +1,31 @@
-// What the reader and the writer ask of an entry.
+// What the route log asks of an entry: which answers can be logged, how many bytes a route has, and its bytes put into a room.
+// specs/Entry.antt says what an entry is. A part of the log's reader and writer, and no entry: what its functions require, their callers prove.
 ghost use mathlib.Core.Path.{_≡_};
-ghost use Prim.Native.Nat.{_≤_};
+ghost use Prim.Native.Nat.{_+_, _≤_};
 ghost use lib.ListN.{length};
 ghost use Rattle.recordlayout.specs.Record.{recordSize};
-ghost use Rattle.routelog.specs.Entry.{greatestLength, routeSize, kindFits, canBeLogged, allWithin};
+ghost use Rattle.logentries.specs.Entry.{greatestLength, routeSize, routeBytes, kindFits, canBeLogged, allWithin};
+ghost use Rattle.putting.specs.Put.{IsPut};
 use floor::MARK;
+use putting::fill;
+use putting::put;
 use recordlayout::RECORD_SIZE;
 use recordlayout::fields::all_zero;
 use recordlayout::fields::numbers_in;
 
 // R-1: "a length up to 4,095".
-pub(crate) const GREATEST_LENGTH: u64 = 4095;
+const GREATEST_LENGTH: u64 = 4095;
 
 // R-1: "a refusal number from 1 to 15".
 const GREATEST_REFUSAL: u64 = 15;
 
 // R-1: directions go up to 7, and the last record of a route is filled up with 255.
-pub(crate) const GREATEST_DIRECTION: u8 = 7;
+pub const GREATEST_DIRECTION: u8 = 7;
 
-pub(crate) const FILLER: u8 = 255;
+pub const FILLER: u8 = 255;
 
 // The bytes of as many records as hold that many directions.
-pub(crate) fn route_size(length: usize) -> usize
+pub fn route_size(length: usize) -> usize
     requires { ⌜ length ≤ greatestLength ⌝ }
     ensures { λ r. ⌜ r ≡ routeSize length ⌝ }
 {
@@ -29,7 +33,7 @@ pub(crate) fn route_size(length: usize) -> usize
 }
 
 // Whether every byte lies between two.
-pub(crate) fn all_within(least: u8, greatest: u8, bytes: &[u8]) -> bool
+pub fn all_within(least: u8, greatest: u8, bytes: &[u8]) -> bool
     ensures { λ r. ⌜ r ≡ allWithin least greatest (now (bytes .entry)) ⌝ }
 {
     let mut i = 0;
@@ -71,7 +75,7 @@ fn kind_fits(kind: u64, number: u64, length: u64) -> bool
 }
 
 // Whether an answer record can be logged.
-pub(crate) fn can_be_logged(answer: &[u8]) -> bool
+pub fn can_be_logged(answer: &[u8]) -> bool
     requires { ⌜ length (now answer) ≡ recordSize ⌝ }
     ensures { λ r. ⌜ r ≡ canBeLogged (now (answer .entry)) ⌝ }
 {
@@ -89,4 +93,15 @@ pub(crate) fn can_be_logged(answer: &[u8]) -> bool
         return kind_fits(numbers.kind, numbers.number, numbers.length);
     }
     false
+}
+
+// Puts the directions, and filler up to the end of their last record, and answers the place after them.
+pub fn put_route(directions: &[u8], room: &mut [u8], at: usize) -> usize
+    requires { ⌜ (length (now directions) ≤ greatestLength) × (at + routeSize (length (now directions)) ≤ length (now room)) ⌝ }
+    ensures { λ r. ⌜ IsPut (routeBytes (now (directions .entry))) (now (room .entry)) at r (now (room .exit)) ⌝ }
+{
+    let count = directions.len();
+    let left = route_size(count) - count;
+    let end = put(directions, room, at);
+    fill(FILLER, left, room, end)
 }
