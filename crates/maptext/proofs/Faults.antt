@@ -12,9 +12,11 @@ use lib.Dec.{eqb, ltb}
 use lib.ListN.{length, getD, drop, length-drop}
 use lib.Seq.{getD-drop, drop-drop}
 use Rattle.textlines.specs.Line.{LF}
-use Rattle.maptext.specs.declared.Cell.{Cell}
-use Rattle.maptext.specs.declared.Cell.the-variants.{Weight, Blocked, NoCell}
-use Rattle.maptext.specs.Reading.{Rows, whole, fault, andThen, oneCell, cellOf, readRow, readRows, heightIn, widthIn, rowsAt, rowsIn}
+use Rattle.textrows.specs.declared.Cell.{Cell}
+use Rattle.textrows.specs.declared.Cell.the-variants.{Weight, Blocked, NoCell}
+use Rattle.textrows.specs.Chars.{cellOf}
+use Rattle.textrows.specs.Rows.{Rows, whole, fault, andThen, oneCell, readRow, readRows}
+use Rattle.maptext.specs.Reading.{heightIn, widthIn, rowsAt, rowsIn}
 use Rattle.maptext.specs.Faults.{IsRight, IsWrong, no-cell, no-line-end, too-soon, further, IsRowsFault}
 
 -- One row: right, or with a first fault at x

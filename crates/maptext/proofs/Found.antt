@@ -1,24 +1,23 @@
 -- What is known of a text that reads as a map: its header has passed, its rows are whole, and the map passes the writer's refusals.
 use mathlib.Core.Path.{_≡_, refl, sym, ap, _∙_}
-use mathlib.Core.Bool.{_&&_}
-use mathlib.Core.List.{List, [], _∷_, _++_, map}
-use Prim.Native.Nat.{ℕ, zero, suc, _+_, _*_, _≤_, _<_}
+use mathlib.Core.List.{List}
+use Prim.Native.Nat.{ℕ, suc, _+_, _*_, _≤_, _<_}
 use native.Mathlib.Nat.{mul-comm, mul-pos, le-of-eq}
 use native.Mathlib.Omega.{arith}
-use lib.Dec.{eqb, ltb, ltb→lt, nltb→le}
-use lib.ListN.{length, take, drop, length-drop}
-use Rattle.paths.proofs.Bools.{by-cond, T-and}
+use lib.Dec.{nltb→le}
+use lib.ListN.{length, drop, length-drop}
 use Rattle.floor.specs.declared.Screen.{Screen}
 use Rattle.floor.specs.declared.Screen.the-variants.{Passed, Refused}
-use Rattle.floor.specs.Place.{greatestSide, greatestWeight, cells}
+use Rattle.floor.specs.Place.{greatestSide, cells}
 use Rattle.floor.specs.Refusal.{screen}
 use Rattle.floor.proofs.Screens.{none-given}
 use Rattle.floor.proofs.Passing.{MapFacts}
-use Rattle.maptext.specs.declared.Cell.{Cell}
-use Rattle.maptext.specs.Reading.{Rows, whole, fault, read, cellOf, heightIn, widthIn, rowsAt, headerLines, readRows, ofRows, afterHeader, readingOf, rowsIn}
-use Rattle.maptext.specs.Working.{byteFor, byteOf, bytesIn, judged, Weights}
+use Rattle.textrows.specs.Rows.{Rows, whole, fault, readRows}
+use Rattle.textrows.specs.Working.{bytesIn, judged}
+use Rattle.maptext.specs.Reading.{read, heightIn, widthIn, rowsAt, headerLines, ofRows, afterHeader, readingOf, rowsIn}
 use Rattle.textlines.proofs.Sides.{side-positive}
-use Rattle.maptext.proofs.Whole.{whole-rows, rows-length, bytes-length}
+use Rattle.textrows.proofs.Whole.{whole-rows, rows-length, bytes-length}
+use Rattle.textrows.proofs.Weights.{weights-bytes}
 
 whole-inj : {m n : List ℕ} → whole m ≡ whole n → m ≡ n
 whole-inj e = cc
@@ -46,34 +45,6 @@ found text room w h m e = go (screen (headerLines text room)) refl e
     go : (s : Screen) → screen (headerLines text room) ≡ s → afterHeader text s ≡ read w h m → IsFound text room w h m
     go Passed p e = of-rows (rowsIn text) refl p e
     go (Refused n p) q e = let z : _≡_ {A = ℕ} 0 1 = cc in absurd (omega arith)
-
-byte-small : (b : ℕ) → byteOf b ≤ greatestWeight
-unfolding cellOf
-byte-small b =
-    by-cond small (eqb b 46) _ _ (λ t. omega arith) λ t.
-    by-cond small (eqb b 71) _ _ (λ t. omega arith) λ t.
-    by-cond small (ltb 48 b && ltb b 58) _ _ (λ t. omega (arith, ltb→lt b 58 (T-and (ltb 48 b) (ltb b 58) t .1))) λ t.
-    by-cond small (eqb b 64) _ _ (λ t. omega arith) λ t.
-    by-cond small (eqb b 79) _ _ (λ t. omega arith) λ t.
-    by-cond small (eqb b 84) _ _ (λ t. omega arith) λ t. omega arith
-  where
-    small : Cell → Type 0
-    small cell = byteFor cell ≤ greatestWeight
-
-weights-map : (bs : List ℕ) → Weights (map byteOf bs)
-weights-map [] v = omega arith
-weights-map (b ∷ bs) zero = byte-small b
-weights-map (b ∷ bs) (suc v) = weights-map bs v
-
-weights-append : (xs ys : List ℕ) → Weights xs → Weights ys → Weights (xs ++ ys)
-weights-append [] ys p q v = q v
-weights-append (x ∷ xs) ys p q zero = p zero
-weights-append (x ∷ xs) ys p q (suc v) = weights-append xs ys (λ u. p (suc u)) q v
-
-weights-bytes : (w h : ℕ) (text : List ℕ) → Weights (bytesIn w h text)
-weights-bytes w zero text = λ v. omega arith
-weights-bytes w (suc h) text =
-    weights-append (map byteOf (take w text)) (bytesIn w h (drop (suc w) text)) (weights-map (take w text)) (weights-bytes w h (drop (suc w) text))
 
 module _ {text : List ℕ} {room w h : ℕ} {m : List ℕ} (x : IsFound text room w h m) where
   -- the room was long enough

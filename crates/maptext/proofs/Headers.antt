@@ -13,9 +13,11 @@ use Rattle.floor.specs.Place.{greatestSide}
 use Rattle.floor.specs.Refusal.{screen}
 use Rattle.floor.specs.Numbers.{Numbers}
 use Rattle.textlines.specs.Line.{sideLine, begins, sideIn}
+use Rattle.textrows.specs.Rows.{Rows, whole, fault, readRows}
+use Rattle.textrows.specs.Working.{judged}
 use Rattle.maptext.specs.Text.{typeLine, mapLine}
-use Rattle.maptext.specs.Reading.{Rows, whole, fault, heightIn, widthAt, widthIn, mapAt, rowsAt, headerLines, readRows, ofRows, readingOf, numbersOf, readFor, rowsIn}
-use Rattle.maptext.specs.Working.{judged, answerFor}
+use Rattle.maptext.specs.Reading.{heightIn, widthAt, widthIn, mapAt, rowsAt, headerLines, ofRows, readingOf, numbersOf, readFor, rowsIn}
+use Rattle.maptext.specs.Working.{answerFor}
 use Rattle.textlines.proofs.Beginnings.{begins-length}
 use Rattle.textlines.proofs.Sides.{side-there}
 

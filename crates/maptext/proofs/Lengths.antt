@@ -6,8 +6,10 @@ use native.Mathlib.Nat.{suc-mul}
 use native.Mathlib.Omega.{arith}
 use lib.ListN.{length, take, drop, length-append, length-drop}
 use Rattle.textlines.specs.Line.{LF, sideLine}
-use Rattle.maptext.specs.Text.{heightWord, widthWord, charOf, header, rows, textOf}
-use Rattle.maptext.proofs.Filling.{mapped-length}
+use Rattle.textrows.specs.Chars.{charOf}
+use Rattle.textrows.specs.Rows.{rows}
+use Rattle.maptext.specs.Text.{heightWord, widthWord, header, textOf}
+use Rattle.textrows.proofs.Filling.{mapped-length}
 
 pub header-length : (w h : ℕ) → length (header w h) ≡ 12 + length (sideLine heightWord h) + length (sideLine widthWord w) + 4
 unfolding header

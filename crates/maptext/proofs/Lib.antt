@@ -1,7 +1,4 @@
 pub mod Headers
-pub mod Judging
-pub mod Filling
-pub mod Whole
 pub mod Lengths
 pub mod Writing
 pub mod Back

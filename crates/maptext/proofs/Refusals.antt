@@ -18,8 +18,9 @@ use Rattle.floor.proofs.Lines.{lowest-line}
 use Rattle.floor.proofs.Screens.{none-given}
 use Rattle.floor.proofs.Passing.{side}
 use Rattle.textlines.specs.Line.{LF, digits, sideLine, begins, sideIn}
+use Rattle.textrows.specs.Rows.{Rows, whole, fault}
 use Rattle.maptext.specs.Text.{typeLine, heightWord, widthWord, mapLine}
-use Rattle.maptext.specs.Reading.{Rows, whole, fault, heightIn, widthAt, widthIn, mapAt, rowsAt, rowsIn, headerLines, refused, ofRows, afterHeader, readingOf}
+use Rattle.maptext.specs.Reading.{heightIn, widthAt, widthIn, mapAt, rowsAt, rowsIn, headerLines, refused, ofRows, afterHeader, readingOf}
 use Rattle.maptext.specs.Faults.{IsWrong, no-cell, no-line-end, too-soon, further, IsRowsFault, IsFirstFault, EndsTooSoon, LinesBefore, first, second, third, fourth, EndsInLine}
 use Rattle.textlines.proofs.Sides.{side-in-none}
 use Rattle.maptext.proofs.Headers.{rows-within}

@@ -7,10 +7,10 @@ use lib.ListN.{length, drop}
 use lib.Seq.{sets}
 use Rattle.floor.specs.declared.Floor.{Floor}
 use Rattle.floor.specs.Place.{greatestSide, cells}
+use Rattle.textrows.specs.Working.{bytesIn}
 use Rattle.maptext.specs.declared.Read.{Read}
 use Rattle.maptext.specs.declared.Read.the-variants.{Map}
 use Rattle.maptext.specs.Reading.{Reading, refused, read, rowsAt, readingOf, numbersOf, readFor, cellsLeft, IsRead}
-use Rattle.maptext.specs.Working.{bytesIn}
 use Rattle.putting.proofs.Puts.{sets-whole}
 use Rattle.maptext.proofs.Found.{IsFound, found, found-room, found-bytes, found-facts, found-end}
 

@@ -13,13 +13,14 @@ use Rattle.floor.specs.Refusal.{screen, mapLines}
 use Rattle.floor.proofs.Passing.{map-facts, facts-pass}
 use Rattle.floor.specs.Numbers.{Numbers, refused, fault, gives}
 use Rattle.textlines.specs.Line.{sideLine}
+use Rattle.textrows.specs.Rows.{rows}
 use Rattle.maptext.specs.declared.Read.{Read}
 use Rattle.maptext.specs.declared.Read.the-variants.{Map}
 use Rattle.maptext.specs.declared.Written.{Written}
 use Rattle.maptext.specs.declared.Written.the-variants.{Length}
 use Rattle.maptext.specs.Text as text
 use Rattle.maptext.specs.Reading as reading
-use Rattle.maptext.specs.Text.{header, rows, textOf, IsWritten, CouldWrite}
+use Rattle.maptext.specs.Text.{header, textOf, IsWritten, CouldWrite}
 use Rattle.maptext.specs.Reading.{read, readingOf, IsRead}
 use Rattle.maptext.proofs.Writing.{text-left}
 use Rattle.maptext.proofs.Back.{lines, header-lines, height-back, width-back, lines-back}

@@ -10,9 +10,10 @@ use Rattle.floor.specs.Place.{isSide}
 use Rattle.floor.specs.Refusal.{screen}
 use Rattle.floor.specs.LowestLine.{IsLowestLine}
 use Rattle.textlines.specs.Line.{LF, sideLine}
-use Rattle.maptext.specs.declared.Cell.the-variants.{NoCell}
+use Rattle.textrows.specs.declared.Cell.the-variants.{NoCell}
+use Rattle.textrows.specs.Chars.{cellOf}
 use Rattle.maptext.specs.Text.{typeLine, heightWord, widthWord}
-use Rattle.maptext.specs.Reading.{cellOf, heightIn, widthIn, rowsAt, headerLines}
+use Rattle.maptext.specs.Reading.{heightIn, widthIn, rowsAt, headerLines}
 
 -- byte b is right at offset i of rows of w cells: a cell character where a cell is due, and LF after a full row
 pub record IsRight (w i b : ℕ) : Type 0 where

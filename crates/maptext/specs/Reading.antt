@@ -1,58 +1,20 @@
 -- What a text reads as: a map, or the first refusal of 21 to 29 in 01's order.
 use mathlib.Core.Path.{_≡_}
-use mathlib.Core.Bool.{cond, not, _&&_}
+use mathlib.Core.Bool.{not}
 use mathlib.Core.List.{List, [], _∷_, _++_}
-use Prim.Native.Nat.{ℕ, zero, suc, _+_, _-_, _*_}
-use lib.Dec.{eqb, ltb}
+use Prim.Native.Nat.{ℕ, _+_, _*_}
+use lib.Dec.{ltb}
 use lib.ListN.{length, drop}
 use Rattle.floor.specs.declared.Screen.{Screen}
 use Rattle.floor.specs.declared.Screen.the-variants.{Passed, Refused}
 use Rattle.floor.specs.Place.{greatestSide}
 use Rattle.floor.specs.Refusal.{Line, line, screen}
 use Rattle.floor.specs.Numbers.{Numbers, gives}
-use Rattle.textlines.specs.Line.{LF, sideLine, begins, sideIn}
-use Rattle.maptext.specs.declared.Cell.{Cell}
-use Rattle.maptext.specs.declared.Cell.the-variants.{Weight, Blocked, NoCell}
+use Rattle.textlines.specs.Line.{sideLine, begins, sideIn}
+use Rattle.textrows.specs.Rows.{Rows, whole, fault, readRows}
 use Rattle.maptext.specs.declared.Read.{Read}
 use Rattle.maptext.specs.declared.Read.the-variants.{Map}
 use Rattle.maptext.specs.Text.{typeLine, heightWord, widthWord, mapLine}
-
--- `.` and `G` are weight 1, `1` to `9` their own weight, `@`, `O` and `T` blocked; all else is no cell character
-unfoldable pub cellOf : ℕ → Cell
-cellOf b =
-    cond (eqb b 46) (Weight 1)
-    (cond (eqb b 71) (Weight 1)
-    (cond (ltb 48 b && ltb b 58) (Weight (b - 48))
-    (cond (eqb b 64) Blocked
-    (cond (eqb b 79) Blocked
-    (cond (eqb b 84) Blocked NoCell)))))
-
--- cells read in rows, or the fault that was met first
-pub data Rows : Type 0 where
-  whole : List ℕ → Rows
-  fault : ℕ → ℕ → Rows
-
-abbrev pub andThen : Rows → Rows → Rows
-andThen (whole a) (whole b) = whole (a ++ b)
-andThen (whole a) (fault n p) = fault n p
-andThen (fault n p) r = fault n p
-
-abbrev pub oneCell : Cell → ℕ → Rows
-oneCell (Weight n) at = whole (n ∷ [])
-oneCell Blocked at = whole (0 ∷ [])
-oneCell NoCell at = fault 25 at
-
--- w cells and their LF are due at offset `at` of the text, of which this is the rest
-abbrev pub readRow : ℕ → ℕ → List ℕ → Rows
-readRow w at [] = fault 27 at
-readRow zero at (b ∷ bs) = cond (eqb b LF) (whole []) (fault 26 at)
-readRow (suc w) at (b ∷ bs) = andThen (oneCell (cellOf b) at) (readRow w (suc at) bs)
-
--- h rows are due, and nothing after
-abbrev pub readRows : ℕ → ℕ → ℕ → List ℕ → Rows
-readRows w zero at [] = whole []
-readRows w zero at (b ∷ bs) = fault 28 at
-readRows w (suc h) at text = andThen (readRow w at text) (readRows w h (at + suc w) (drop (suc w) text))
 
 -- where the lines of a header start, and the sides that they give
 abbrev pub heightIn : List ℕ → ℕ

@@ -1,15 +1,16 @@
 -- The text of a map, as the writer writes it.
 use mathlib.Core.Path.{_≡_}
-use mathlib.Core.List.{List, [], _∷_, _++_, map}
-use Prim.Native.Nat.{ℕ, zero, suc, _+_}
+use mathlib.Core.List.{List, [], _∷_, _++_}
+use Prim.Native.Nat.{ℕ}
 use lib.Dec.{ltb}
-use lib.ListN.{length, take, drop}
+use lib.ListN.{length, drop}
 use Rattle.floor.specs.declared.Floor.{Floor}
 use Rattle.floor.specs.declared.Screen.{Screen}
 use Rattle.floor.specs.declared.Screen.the-variants.{Passed, Refused}
 use Rattle.floor.specs.Refusal.{Line, line, screen, mapLines}
 use Rattle.floor.specs.Numbers.{Numbers, refused, gives, afterScreen}
 use Rattle.textlines.specs.Line.{LF, sideLine}
+use Rattle.textrows.specs.Rows.{rows}
 use Rattle.maptext.specs.declared.Written.{Written}
 use Rattle.maptext.specs.declared.Written.the-variants.{Length}
 
@@ -28,17 +29,6 @@ mapLine = 109 ∷ 97 ∷ 112 ∷ LF ∷ []
 
 unfoldable pub header : ℕ → ℕ → List ℕ
 header w h = typeLine ++ sideLine heightWord h ++ sideLine widthWord w ++ mapLine
-
--- the character of a cell: `@` blocked, `.` weight 1, `2` to `9`
-abbrev pub charOf : ℕ → ℕ
-charOf zero = 64
-charOf (suc zero) = 46
-charOf (suc (suc n)) = 50 + n
-
--- h rows of w characters, each with its LF
-abbrev pub rows : ℕ → ℕ → List ℕ → List ℕ
-rows w zero m = []
-rows w (suc h) m = map charOf (take w m) ++ (LF ∷ rows w h (drop w m))
 
 unfoldable pub textOf : ℕ → ℕ → List ℕ → List ℕ
 textOf w h m = header w h ++ rows w h m

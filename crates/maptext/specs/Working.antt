@@ -1,46 +1,11 @@
--- What the parts of the reader and the writer promise to each other. What a text means is in Text and Reading.
-use mathlib.Core.Bool.{Bool, true, false}
-use mathlib.Core.List.{List, [], _++_, map}
-use Prim.Native.Nat.{ℕ, zero, suc, _≤_}
-use lib.ListN.{getD, take, drop}
+-- What the functions of the reader promise to each other. What a text means is in Text and Reading.
+use Prim.Native.Nat.{ℕ}
 use Rattle.floor.specs.declared.Screen.{Screen}
 use Rattle.floor.specs.declared.Screen.the-variants.{Passed, Refused}
-use Rattle.floor.specs.Place.{greatestWeight}
-use Rattle.maptext.specs.declared.Cell.{Cell}
-use Rattle.maptext.specs.declared.Cell.the-variants.{Weight, Blocked, NoCell}
 use Rattle.maptext.specs.declared.Read.{Read}
 use Rattle.maptext.specs.declared.Read.the-variants.{Map}
-use Rattle.maptext.specs.Reading.{Rows, whole, fault, cellOf}
-
-abbrev pub isCell : Cell → Bool
-isCell (Weight n) = true
-isCell Blocked = true
-isCell NoCell = false
-
--- the byte that a cell has in the map; no cell has none, and 0 stands in
-abbrev pub byteFor : Cell → ℕ
-byteFor (Weight n) = n
-byteFor Blocked = 0
-byteFor NoCell = 0
-
-abbrev pub byteOf : ℕ → ℕ
-byteOf b = byteFor (cellOf b)
-
--- the bytes of h rows of w characters, each with one byte after it
-abbrev pub bytesIn : ℕ → ℕ → List ℕ → List ℕ
-bytesIn w zero text = []
-bytesIn w (suc h) text = map byteOf (take w text) ++ bytesIn w h (drop (suc w) text)
-
--- what is refused of rows
-abbrev pub judged : Rows → Screen
-judged (whole m) = Passed
-judged (fault n p) = Refused n p
 
 -- the reader's answer, from what was found in the rows
 abbrev pub answerFor : Screen → ℕ → ℕ → Read
 answerFor Passed w h = Map (record { width = w; height = h; ways = 8 })
 answerFor (Refused n p) w h = Read.Refused n p
-
--- every byte of a map is a weight; past the end too, where `getD` gives its default
-abbrev pub Weights : List ℕ → Type 0
-Weights m = (v : ℕ) → getD m v 0 ≤ greatestWeight

@@ -1,6 +1,5 @@
 // Map text: the reader and the writer of 01, "Map text". specs/Text.antt says what a map's text is, specs/Reading.antt what a text reads as.
 
-mod chars; // chars.rt: a cell and its character
 mod reader; // reader.rt: from a text to a map
 mod writer; // writer.rt: from a map to a text
 
@@ -11,13 +10,6 @@ pub use reader::judge_map;
 pub use reader::read_map;
 pub use writer::fradnumber_write_map;
 pub use writer::write_map;
-
-// What a character of a row means.
-pub enum Cell {
-    Weight(u8),
-    Blocked,
-    NoCell,
-}
 
 // The reader's answer: the floor of the map that was read (ways is 8), or the refusal's number and place. `numbersOf` in specs/Reading.antt.
 pub enum Read {

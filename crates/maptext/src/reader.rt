@@ -1,96 +1,18 @@
 // From a text to a map.
 ghost use mathlib.Core.Path.{_≡_};
-ghost use mathlib.Core.List.{map};
-ghost use Prim.Native.Nat.{suc, _+_, _*_, _^_, _≤_, _<_};
-ghost use lib.ListN.{length, take, drop};
-ghost use lib.Seq.{sets};
-ghost use Rattle.maptext.specs.Reading.{readRow, readRows, readingOf, numbersOf, readFor, IsRead};
+ghost use Rattle.maptext.specs.Reading.{readingOf, numbersOf, readFor, IsRead};
 ghost use Rattle.maptext.specs.Calls.{readNumbers, ReadCalled};
-ghost use Rattle.maptext.specs.Working.{judged, answerFor, byteOf, bytesIn};
+ghost use Rattle.maptext.specs.Working.{answerFor};
 use crate::Read;
 use crate::ReadNumbers;
-use crate::chars::byte_of;
-use crate::chars::is_cell;
 use floor::Floor;
 use floor::GREATEST_SIDE;
 use floor::Screen;
 use textlines::lines::begins_at;
 use textlines::lines::side_at;
 use textlines::lines::side_line_length;
-
-// The first fault of one row. `row` is the text from that row on, and `at` the row's offset, for the places.
-fn judge_row(width: usize, at: usize, row: &[u8]) -> Screen
-    requires { ⌜ at + length (now row) < 2 ^ 64 ⌝ }
-    ensures { λ r. ⌜ r ≡ judged (readRow width at (now (row .entry))) ⌝ }
-{
-    let mut x = 0;
-    while x < width {
-        if row.len() <= x {
-            return Screen::Refused(27, at + x);
-        }
-        if is_cell(row[x]) {
-            x += 1;
-        } else {
-            return Screen::Refused(25, at + x);
-        }
-    }
-    if row.len() <= x {
-        return Screen::Refused(27, at + x);
-    }
-    if row[x] == b'\n' {
-        return Screen::Passed;
-    }
-    Screen::Refused(26, at + x)
-}
-
-// The first fault of the rows that begin at `from`, and of what follows them.
-fn judge_rows(width: usize, height: usize, from: usize, text: &[u8]) -> Screen
-    requires { ⌜ from ≤ length (now text) ⌝ }
-    ensures { λ r. ⌜ r ≡ judged (readRows width height from (drop from (now (text .entry)))) ⌝ }
-{
-    let mut left = height;
-    let mut at = from;
-    while 0 < left {
-        let found = judge_row(width, at, &text[at..]);
-        let Screen::Passed = found else {
-            return found;
-        };
-        at += width + 1;
-        left -= 1;
-    }
-    if at < text.len() {
-        return Screen::Refused(28, at);
-    }
-    Screen::Passed
-}
-
-// Stores the cells of one row from `to` on. `row` is the text from that row on.
-fn fill_row(width: usize, row: &[u8], cells: &mut [u8], to: usize)
-    requires { ⌜ (width ≤ length (now row)) × (to + width ≤ length (now cells)) ⌝ }
-    ensures { λ _. ⌜ now (cells .exit) ≡ sets (now (cells .entry)) to (map byteOf (take width (now (row .entry)))) ⌝ }
-{
-    let mut x = 0;
-    while x < width {
-        cells[to + x] = byte_of(row[x]);
-        x += 1;
-    }
-}
-
-// Stores the cells of the rows that begin at `from`.
-fn fill_rows(width: usize, height: usize, from: usize, text: &[u8], cells: &mut [u8])
-    requires { ⌜ (from + height * suc width ≤ length (now text)) × (height * width ≤ length (now cells)) ⌝ }
-    ensures { λ _. ⌜ now (cells .exit) ≡ sets (now (cells .entry)) 0 (bytesIn width height (drop from (now (text .entry)))) ⌝ }
-{
-    let mut left = height;
-    let mut at = from;
-    let mut to = 0;
-    while 0 < left {
-        fill_row(width, &text[at..], cells, to);
-        at += width + 1;
-        to += width;
-        left -= 1;
-    }
-}
+use textrows::rows::fill_rows;
+use textrows::rows::judge_rows;
 
 // 01: the reader always returns 8 for ways.
 fn answer(found: Screen, width: usize, height: usize) -> Read

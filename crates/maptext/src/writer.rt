@@ -1,59 +1,20 @@
 // From a map to a text.
 ghost use mathlib.Core.Path.{_≡_};
-ghost use mathlib.Core.List.{_++_, [], _∷_, map};
 ghost use Prim.Native.Nat.{suc, _+_, _*_, _≤_, _<_};
-ghost use lib.ListN.{length, take};
+ghost use lib.ListN.{length};
 ghost use Rattle.floor.specs.Place.{greatestSide, floorOf};
-ghost use Rattle.textlines.specs.Line.{LF};
 ghost use Rattle.putting.specs.Put.{IsPut};
-ghost use Rattle.maptext.specs.Text.{charOf, rows, header, numbersOf, IsWritten};
+ghost use Rattle.maptext.specs.Text.{header, numbersOf, IsWritten};
 ghost use Rattle.maptext.specs.Calls.{writtenNumbers, WriteCalled};
-ghost use Rattle.maptext.specs.Working.{Weights};
 use crate::Written;
 use crate::WrittenNumbers;
-use crate::chars::char_of;
 use floor::Floor;
 use floor::Screen;
 use putting::put;
 use screens::screen_map;
 use textlines::lines::put_side_line;
 use textlines::lines::side_line_length;
-
-fn put_cells(width: usize, cells: &[u8], room: &mut [u8], at: usize) -> usize
-    requires { ⌜ Weights (now cells) × (width ≤ length (now cells)) × (at + width ≤ length (now room)) ⌝ }
-    ensures { λ r. ⌜ IsPut (map charOf (take width (now (cells .entry)))) (now (room .entry)) at r (now (room .exit)) ⌝ }
-{
-    let mut x = 0;
-    while x < width {
-        room[at + x] = char_of(cells[x]);
-        x += 1;
-    }
-    at + x
-}
-
-// Puts one row and its LF. `cells` is the map from that row on.
-fn put_row(width: usize, cells: &[u8], room: &mut [u8], at: usize) -> usize
-    requires { ⌜ Weights (now cells) × (width ≤ length (now cells)) × (at + suc width ≤ length (now room)) ⌝ }
-    ensures { λ r. ⌜ IsPut (map charOf (take width (now (cells .entry))) ++ (LF ∷ [])) (now (room .entry)) at r (now (room .exit)) ⌝ }
-{
-    let end = put_cells(width, cells, room, at);
-    put(b"\n", room, end)
-}
-
-fn put_rows(width: usize, height: usize, map: &[u8], room: &mut [u8], at: usize) -> usize
-    requires { ⌜ Weights (now map) × (height * width ≤ length (now map)) × (at + height * suc width ≤ length (now room)) ⌝ }
-    ensures { λ r. ⌜ IsPut (rows width height (now (map .entry))) (now (room .entry)) at r (now (room .exit)) ⌝ }
-{
-    let mut left = height;
-    let mut from = 0;
-    let mut next = at;
-    while 0 < left {
-        next = put_row(width, &map[from..], room, next);
-        from += width;
-        left -= 1;
-    }
-    next
-}
+use textrows::rows::put_rows;
 
 fn put_header(width: usize, height: usize, room: &mut [u8]) -> usize
     requires { ⌜ (0 < width) × (width ≤ greatestSide) × (0 < height) × (height ≤ greatestSide) × (length (header width height) ≤ length (now room)) ⌝ }
