@@ -1,5 +1,6 @@
 #!/usr/bin/env python3
-"""Asks the proved planner for a route on a hall's floor, in words and as a picture; replays files of questions, judges claimed routes.
+"""Asks the proved planner for a route on a hall's floor, in words and as a picture; replays files of questions, judges claimed routes, writes and reads
+route logs.
 
 Nothing is planned here: answers come from the proved programs `planner` and `calls`, which tools/start starts. ./run starts this.
 """
@@ -21,7 +22,7 @@ try:
     import re
     import sys
 
-    from asking import questions, replaying
+    from asking import questions, reading, replaying
     from asking.names import visible
     from asking.output import Output, complain
     from asking.programs import LARGEST, ROOT, Calls, Trouble, clean_up, read_text
@@ -59,6 +60,16 @@ replay
   (1 byte), three zeros; - is standard input. Each is answered as soon as it is read. The file of --answers holds records
   of 16 bytes as the planner writes them; each that is not the proved answer is said, with its bytes.
 
+route log
+  ./run MAP --from x,y --to x,y --log FILE
+  ./run MAP --replay QUESTIONS --log FILE
+  Each question is appended to FILE with its answer and, if found, its route. FILE is made if it is missing; one that does
+  not end where an entry ends is left as it is, and nothing is asked. An answer with a route above 4095 steps cannot be
+  logged; that is said, and the rest is.
+  ./run [MAP] --read-log FILE
+  Shows the entries of FILE; - is standard input. With the map each logged route is checked as a claim, and each question is
+  asked again: an answer or a route that is not the proved one is said. Where a torn file breaks off is said too, and why.
+
 questions written
   ./run MAP --write-questions FILE --from x,y --to x,y     one record
   ./run MAP --write-questions FILE --csv CSV               from_x,from_y,to_x,to_y[,ways[,limit]] on each line
@@ -69,9 +80,11 @@ examples
   ./run examples/halls/maze.map --replay examples/halls/maze.questions --answers examples/halls/maze.answers
 
 exit status
-  0  answered; a claim holds; in a replay, no given answer differs or is missing
-  1  a given answer differs or is missing, a claim is wrong, or a question, a claim or the map is refused
-  2  wrong usage; a file or a program is missing or fails; not all could be written; stopped by Ctrl-C
+  0  answered; a claim holds; in a replay, no given answer differs or is missing; a log is whole, and nothing in it differs
+  1  a given answer differs or is missing, a claim is wrong, or a question, a claim or the map is refused; a log is torn, or
+     an entry is wrong or differs; an answer is not logged
+  2  wrong usage; a file or a program is missing or fails; not all could be written, or a log cannot be appended to;
+     stopped by Ctrl-C
 """
 
 
@@ -121,7 +134,7 @@ def parser():
         prog="./run", description="Asks the proved planner about a hall's floor.",
         epilog=HELP, formatter_class=argparse.RawDescriptionHelpFormatter, allow_abbrev=False,
     )
-    made.add_argument("map", metavar="MAP", help="the hall's floor as map text")
+    made.add_argument("map", metavar="MAP", nargs="?", help="the hall's floor as map text; only --read-log does without")
     made.add_argument("--from", dest="start", metavar="x,y", type=cell_argument, help="where the cart stands")
     made.add_argument("--to", dest="goal", metavar="x,y", type=cell_argument, help="where it is to go")
     made.add_argument("--ways", type=int, choices=(4, 8), help="directions of a step (8)")
@@ -131,42 +144,50 @@ def parser():
     made.add_argument("--costs", action="store_true", help="all least costs from --from, as CSV")
     made.add_argument("--replay", metavar="QUESTIONS", help="answer the question records of a file")
     made.add_argument("--answers", metavar="FILE", help="with --replay: given answers, to be compared")
+    made.add_argument("--log", metavar="FILE", help="append questions, answers and routes to a route log")
+    made.add_argument("--read-log", metavar="FILE", help="show a route log; with MAP check its routes and ask again")
     made.add_argument("--write-questions", metavar="FILE", help="write question records, - for standard output")
     made.add_argument("--csv", metavar="CSV", help="with --write-questions: where the questions come from")
     made.add_argument("--svg", metavar="FILE", help="write the picture to FILE, - for standard output")
     made.add_argument("--json", action="store_true", help="one object a line in place of words")
     made.add_argument("--color", choices=("auto", "always", "never"), default="auto", help="colours in the terminal (auto)")
-    made.add_argument("--quiet", action="store_true", help="no picture; in a replay only what differs or is missing")
+    made.add_argument("--quiet", action="store_true", help="no picture; in a replay or a log only what differs, is missing or wrong")
     made.add_argument("--version", action="version", version=version())
     return made
 
 
 # What each thing that can be asked for needs and takes, beside MAP, --json and --quiet.
 USES = {
-    "--replay": ((), ("answers",)),
+    "--read-log": ((), ()),
+    "--replay": ((), ("answers", "log")),
     "--write-questions": ((), ("start", "goal", "ways", "limit", "csv")),
     "--check": (("start", "goal", "cost"), ("ways", "svg")),
     "--costs": (("start",), ("ways",)),
-    "a question": (("start", "goal"), ("ways", "limit", "svg")),
+    "a question": (("start", "goal"), ("ways", "limit", "svg", "log")),
 }
 WORDS = {
     "start": "--from x,y", "goal": "--to x,y", "ways": "--ways", "limit": "--limit", "cost": "--cost N", "svg": "--svg", "answers": "--answers",
-    "csv": "--csv CSV",
+    "csv": "--csv CSV", "log": "--log",
 }
 
 
+def all_wanted(given):
+    asked = {
+        "--read-log": given.read_log, "--replay": given.replay, "--write-questions": given.write_questions, "--check": given.check,
+        "--costs": given.costs or None,
+    }
+    return [word for word, value in asked.items() if value is not None]
+
+
 def wanted(given):
-    for word, value in (
-        ("--replay", given.replay), ("--write-questions", given.write_questions), ("--check", given.check), ("--costs", given.costs or None)
-    ):
-        if value is not None:
-            return word
-    return "a question"
+    return (all_wanted(given) or ["a question"])[0]
 
 
 def check_usage(made, given):
     """Words that do not go together."""
     what = wanted(given)
+    if given.map is None and what != "--read-log":
+        made.error("the following arguments are required: MAP")
     needed, taken = USES[what]
     if what == "--write-questions":
         needed = () if given.csv is not None else ("start", "goal")
@@ -175,12 +196,13 @@ def check_usage(made, given):
     if missing:
         made.error(f"{what} needs {' and '.join(missing)}")
     others = [WORDS[name] for name in WORDS if getattr(given, name) is not None and name not in (*needed, *taken)]
-    others += [word for word, value in (("--check", given.check), ("--costs", given.costs or None)) if value is not None and word != what]
-    others += ["--write-questions"] if given.write_questions is not None and what == "--replay" else []
+    others += all_wanted(given)[1:]
     if others:
         made.error(f"{what} does not go with {' and '.join(others)}")
     if given.svg == "-" and given.json:
         made.error("--svg - has standard output to itself: leave out --json")
+    if given.log == "-":
+        made.error("--log appends to a plain file, and - is none")
 
 
 def with_defaults(given):
@@ -199,12 +221,14 @@ def answer(given):
     """Answers what is asked, and gives the exit status."""
     # a picture, or records, that go to standard output have it to themselves
     out = Output(sys.stderr if "-" in (given.svg, given.write_questions) else sys.stdout)
-    text = read_text(given.map)
+    text = None if given.map is None else read_text(given.map)
     what = wanted(given)
     with Calls() as calls:
-        floor = questions.read_floor(calls, given, text)
+        floor = None if text is None else questions.read_floor(calls, given, text)
         if isinstance(floor, questions.Told):
             return questions.tell(given, floor, out, False)
+        if what == "--read-log":
+            return reading.read_log(given, calls, floor, text, out)
         if what == "--replay":
             return replaying.replay(given, calls, floor, text, out)
         if what == "--write-questions":

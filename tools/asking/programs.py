@@ -30,12 +30,15 @@ PROGRAM_TEXT = 4195
 REFUSED, FOUND, NONE, STOPPED = range(4)
 HOLDS, FAULT = 1, 2  # kinds of a route claim's answer, beside REFUSED
 RIGHT = 1  # of a table claim's
-SEARCH, ROUTE_CLAIM, TABLE_CLAIM, READ_MAP, ANSWER_RECORDS = 1, 2, 3, 4, 9
+EMPTY = 2  # of what the rest of a log reads as
+SEARCH, ROUTE_CLAIM, TABLE_CLAIM, READ_MAP, ANSWER_RECORDS, READ_ENTRY, WRITE_ENTRY = 1, 2, 3, 4, 9, 12, 13
 
 # The eight directions: name, dx, dy.
 DIRECTIONS = (("N", 0, -1), ("NE", 1, -1), ("E", 1, 0), ("SE", 1, 1), ("S", 0, 1), ("SW", -1, 1), ("W", -1, 0), ("NW", -1, -1))
 
 RECORD = 16
+# No entry of a log is longer: question, answer, and the records that hold the longest route.
+LONGEST_ENTRY = 2 * RECORD + 4096
 QUESTION_LAYOUT = struct.Struct("<IIIB3s")
 ANSWER_LAYOUT = struct.Struct("<BB2sIII")
 HEAD_LAYOUT = struct.Struct("<18I")
@@ -46,7 +49,10 @@ AT_A_TIME = 1024
 Floor = namedtuple("Floor", "width height cells")
 Question = namedtuple("Question", "start goal limit ways zeros")
 Answer = namedtuple("Answer", "kind refusal zeros settled number length")
-MapRefusal = namedtuple("MapRefusal", "number place")
+# Of a map's text, or of an entry of a log.
+Refusal = namedtuple("Refusal", "number place")
+# An entry of a log: the two records, the directions, and how many bytes it takes there.
+Entry = namedtuple("Entry", "asked answered route taken")
 # What a search leaves: the costs of all cells, MARK where not settled, and the directions of the route.
 Rooms = namedtuple("Rooms", "costs route")
 # What the check says of a claimed route: kind, refusal or fault, its place, the cost if it holds.
@@ -78,11 +84,20 @@ def answer_of(record):
     return Answer(*ANSWER_LAYOUT.unpack(record))
 
 
-def open_file(path, what, plain=False):
-    """A file to read bytes from; one that is to be a plain file is no folder, pipe or device."""
+def answer_record(answer):
+    return ANSWER_LAYOUT.pack(*answer)
+
+
+def is_plain(file):
+    """Whether an open file is no folder, pipe or device."""
+    return stat.S_ISREG(os.fstat(file.fileno()).st_mode)
+
+
+def open_file(path, what, plain=False, how="rb"):
+    """A file to read bytes from, or opened otherwise and then without a buffer; one that is to be a plain file is no folder, pipe or device."""
     try:
-        file = open(path, "rb")
-        if plain and not stat.S_ISREG(os.fstat(file.fileno()).st_mode):
+        file = open(path, how, buffering=-1 if how == "rb" else 0)
+        if plain and not is_plain(file):
             file.close()
             raise Trouble(f"{what} {visible(path)} is no plain file")
         return file
@@ -208,7 +223,7 @@ class Calls:
     def read_map(self, text):
         """The floor of a map's text, or its refusal."""
         (kind, number, place, width, height, _), (cells, *_) = self.call(READ_MAP, (MOST_CELLS, b""), text=(len(text), text))
-        return MapRefusal(number, place) if kind == REFUSED else Floor(width, height, cells[: width * height])
+        return Refusal(number, place) if kind == REFUSED else Floor(width, height, cells[: width * height])
 
     def search(self, floor, asked):
         """The answer to a question, as the planner would give it, and the rooms afterwards."""
@@ -249,6 +264,22 @@ class Calls:
         if numbers[0] != len(records):
             raise Trouble("the program calls did not answer every question; 'rt check calls' builds it anew")
         return text
+
+    def read_entry(self, rest):
+        """The entry that the rest of a log begins with, or its refusal; None if the rest is empty."""
+        (kind, number, place, length, taken, _), (records, _, _, route, _) = self.call(
+            READ_ENTRY, (2 * RECORD, b""), route=(len(rest), b""), text=(len(rest), rest)
+        )
+        if kind == EMPTY:
+            return None
+        return Refusal(number, place) if kind == REFUSED else Entry(records[:RECORD], records[RECORD:], route[:length], taken)
+
+    def write_entry(self, asked, answered, route):
+        """The bytes of a log's entry, or its refusal."""
+        (kind, number, place, length, _, _), (_, _, _, _, text) = self.call(
+            WRITE_ENTRY, (2 * RECORD, asked + answered), route=(len(route), route), text=(LONGEST_ENTRY, b"")
+        )
+        return Refusal(number, place) if kind == REFUSED else text[:length]
 
 
 def cells_of(floor, start, route):

@@ -5,11 +5,12 @@ import sys
 from collections import namedtuple
 
 from asking import drawing, terminal, words
+from asking.logfile import Log
 from asking.names import base_name, visible
 from asking.output import write_file
 from asking.programs import (
-    DIRECTIONS, FAULT, FOUND, HOLDS, LARGEST, MARK, NONE, PROGRAM_SIDE, REFUSED, STOPPED, MapRefusal, Planner, Trouble,
-    answer_of, cells_of, is_for_program, question, record_of,
+    DIRECTIONS, FAULT, FOUND, HOLDS, LARGEST, MARK, NONE, PROGRAM_SIDE, REFUSED, STOPPED, Planner, Refusal, Trouble,
+    answer_of, answer_record, cells_of, is_for_program, question, question_of, record_of,
 )
 from asking.view import View
 
@@ -17,9 +18,11 @@ ANSWERED, DIFFERENT = 0, 1
 
 # All about one question. `holds`: the check of claimed routes takes the route that was found. `by`: who answered.
 Outcome = namedtuple("Outcome", "floor question answer rooms holds by")
-# What is told: lines, the same as an object, the picture (None: there is none), the lines over it in a file, the exit status.
-Told = namedtuple("Told", "lines object view headline status")
+# What is told: lines, the same as an object, the picture (None: there is none), the lines over it in a file, the exit status, and trouble that has come up
+# after the answer and is raised once that is told.
+Told = namedtuple("Told", "lines object view headline status trouble", defaults=(None,))
 
+TWO_BUILDS = "planner and calls answer differently, so they are not of one build: run 'rt check planner calls'"
 BY_BOTH, BY_LIBRARY = "the program and the library, alike", f"the library; the program takes sides up to {PROGRAM_SIDE}"
 
 
@@ -56,11 +59,23 @@ def map_refused(given, text, refusal):
     return Told([f"{base_name(given.map)}:", *lines], {**told, "why": words.meaning(refusal.number)}, None, None, DIFFERENT)
 
 
+def refusal_object(refused):
+    return {"refusal": refused.number, "why": words.meaning(refused.number)}
+
+
+def verdict_object(verdict):
+    """What the check says of a claimed route."""
+    told = {"kind": {HOLDS: "holds", FAULT: "fault"}.get(verdict.kind, "refused")}
+    if verdict.kind == HOLDS:
+        return {**told, "cost": verdict.cost}
+    return {**told, "number": verdict.number, "place": verdict.place, "why": words.meaning(verdict.number)}
+
+
 def answer_object(answer):
     """An answer with the names of its numbers."""
     told = {"kind": words.KINDS.get(answer.kind, answer.kind)}
     if answer.kind == REFUSED:
-        return {**told, "refusal": answer.refusal, "why": words.meaning(answer.refusal)}
+        return {**told, **refusal_object(Refusal(answer.refusal, 0))}
     names = {FOUND: {"cost": answer.number, "steps": answer.length}, NONE: {}, STOPPED: {"floor": answer.number}}
     return {**told, **names.get(answer.kind, {"number": answer.number, "length": answer.length}), "settled": answer.settled}
 
@@ -77,12 +92,22 @@ def search(calls, floor, text, given):
         by = BY_BOTH
         with Planner(text) as planner:
             if answer_of(planner.answers(record_of(asked))) != answer:
-                raise Trouble("planner and calls answer differently, so they are not of one build: run 'rt check planner calls'")
+                raise Trouble(TWO_BUILDS)
     holds = False
     if answer.kind == FOUND:
         verdict = calls.check_route(floor, asked, answer.number, rooms.route)
         holds = verdict.kind == HOLDS and verdict.cost == answer.number
     return Outcome(floor, asked, answer, rooms, holds, by)
+
+
+def first_route(calls, floor, asked, answered):
+    """The directions that belong to an answer's record, from the library, which must give the same answer."""
+    if answer_of(answered).kind != FOUND:
+        return b""
+    answer, rooms = calls.search(floor, question_of(asked))
+    if answer_record(answer) != answered:
+        raise Trouble(TWO_BUILDS)
+    return rooms.route
 
 
 def more_about(outcome, root):
@@ -110,7 +135,24 @@ def outcome_object(given, outcome):
     return {**told, "answered_by": ["planner", "library"] if outcome.by == BY_BOTH else ["library"]}
 
 
+def logged(told, log, outcome):
+    """Appends an outcome to the log, and adds what has become of it to what is told."""
+    route = outcome.rooms.route if outcome.rooms else b""
+    entry = log.calls.write_entry(record_of(outcome.question), answer_record(outcome.answer), route)
+    if isinstance(entry, Refusal):
+        lines = [*told.lines, words.not_logged(entry, outcome.answer)]
+        return told._replace(lines=lines, object={**told.object, "logged": refusal_object(entry)}, status=DIFFERENT)
+    try:
+        log.append([entry])
+    except Trouble as trouble:
+        return told._replace(object={**told.object, "logged": None}, trouble=trouble)
+    begin = log.end - len(entry)
+    lines = [*told.lines, f"logged in {visible(log.path)} as entry {log.count}, bytes {begin} to {log.end - 1}"]
+    return told._replace(lines=lines, object={**told.object, "logged": {"entry": log.count, "byte": begin, "bytes": len(entry)}})
+
+
 def ask(given, calls, floor, text):
+    log = None if given.log is None else Log(calls, given.log)
     outcome = search(calls, floor, text, given)
     root = terminal.marks_for(sys.stdout).root
     rooms = outcome.rooms
@@ -122,7 +164,8 @@ def ask(given, calls, floor, text):
     lines.append(f"answered by {outcome.by}")
     good = outcome.holds if outcome.answer.kind == FOUND else outcome.answer.kind != REFUSED
     headline = [words.answer(outcome.answer), *more_about(outcome, "√2")[:1], subject]
-    return Told(lines, outcome_object(given, outcome), view, headline, ANSWERED if good else DIFFERENT)
+    told = Told(lines, outcome_object(given, outcome), view, headline, ANSWERED if good else DIFFERENT)
+    return told if log is None else logged(told, log, outcome)
 
 
 # ---- a claimed route
@@ -158,11 +201,8 @@ def check(given, calls, floor, _):
     subject = f"{sizes(given.map, floor)}; a claimed route {ends}, {words.count(len(given.check), 'step')}, cost {given.cost}"
     line = words.verdict(verdict, floor, given.check, asked.start)
     told = {**about_map(given.map, floor), "from": list(given.start), "to": list(given.goal), "ways": given.ways, "route": list(given.check)}
-    told |= {"claimed_cost": given.cost, "kind": {HOLDS: "holds", FAULT: "fault"}.get(verdict.kind, "refused")}
-    if verdict.kind == HOLDS:
-        told |= {"cost": verdict.cost}
-    else:
-        told |= {"number": verdict.number, "place": verdict.place, "why": words.meaning(verdict.number)}
+    told |= {"claimed_cost": given.cost, **verdict_object(verdict)}
+    if verdict.kind != HOLDS:
         told |= {"cell": None if fault is None else [fault % floor.width, fault // floor.width]}
     lines = [subject, line, "judged by the library's check of claimed routes"]
     return Told(lines, told, view, [line, subject], ANSWERED if verdict.kind == HOLDS else DIFFERENT)
@@ -243,10 +283,12 @@ def tell(given, told, out, colour):
         write_file(given.svg, drawing.svg(told.view, told.headline).encode("utf-8"), "the picture")
         if given.svg != "-" and not given.json:
             out.lines([f"the picture is in {visible(given.svg)}"])
+    if told.trouble:
+        raise told.trouble
     return told.status
 
 
 def read_floor(calls, given, text):
     """The floor, or what is told about a map that is refused."""
     floor = calls.read_map(text)
-    return map_refused(given, text, floor) if isinstance(floor, MapRefusal) else floor
+    return map_refused(given, text, floor) if isinstance(floor, Refusal) else floor

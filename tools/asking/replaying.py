@@ -1,4 +1,4 @@
-"""A file of question records answered as it is read, and compared with given answers; question records written."""
+"""A file of question records answered as it is read, compared with given answers, and logged; question records written."""
 import csv
 import os
 import re
@@ -8,13 +8,16 @@ from collections import namedtuple
 from contextlib import contextmanager
 
 from asking import words
+from asking.logfile import Log
 from asking.names import visible
 from asking.output import write_file
 from asking.programs import (
-    AT_A_TIME, LARGEST, MARK, RECORD, Planner, Trouble,
+    AT_A_TIME, LARGEST, MARK, RECORD, Planner, Refusal, Trouble,
     answer_of, is_for_program, open_file, question, question_of, record_of, whole_records,
 )
-from asking.questions import ANSWERED, BY_BOTH, BY_LIBRARY, DIFFERENT, about_map, answer_object, cell_number, place_words, sizes
+from asking.questions import (
+    ANSWERED, BY_BOTH, BY_LIBRARY, DIFFERENT, about_map, answer_object, cell_number, first_route, place_words, refusal_object, sizes,
+)
 
 NAMED = 8  # so many numbers of answers a summary names
 
@@ -75,8 +78,9 @@ def answering(calls, floor, text):
 
 # ---- what is told
 
-# One question of a replay: its number from 0, the records, and how the given answer compares: None, "same", "differs" or "missing".
-Turn = namedtuple("Turn", "place asked proved given compared")
+# One question of a replay: its number from 0, the records, how the given answer compares (None, "same", "differs" or "missing"), and the refusal of an
+# answer that the log does not take.
+Turn = namedtuple("Turn", "place asked proved given compared unlogged", defaults=(None,))
 
 
 def turn_lines(turn, floor):
@@ -90,21 +94,47 @@ def turn_lines(turn, floor):
         yield f"      DIFFERS: {at} says {words.answer(answer_of(turn.given))}{odd}"
         yield f"        given  {turn.given.hex(' ')}"
         yield f"        proved {turn.proved.hex(' ')}"
+    if turn.unlogged:
+        yield f"      {words.not_logged(turn.unlogged, answer_of(turn.proved))}"
 
 
 def cell_object(floor, cell):
-    return [cell % floor.width, cell // floor.width] if cell < floor.width * floor.height else cell
+    return [cell % floor.width, cell // floor.width] if floor and cell < floor.width * floor.height else cell
+
+
+def asked_object(floor, asked):
+    told = {"from": cell_object(floor, asked.start), "to": cell_object(floor, asked.goal), "ways": asked.ways}
+    return {**told, "limit": None if asked.limit == LARGEST else asked.limit}
 
 
 def turn_object(turn, floor):
-    asked = question_of(turn.asked)
-    told = {"question": turn.place + 1, "from": cell_object(floor, asked.start), "to": cell_object(floor, asked.goal), "ways": asked.ways}
-    told |= {"limit": None if asked.limit == LARGEST else asked.limit, **answer_object(answer_of(turn.proved))}
+    told = {"question": turn.place + 1, **asked_object(floor, question_of(turn.asked)), **answer_object(answer_of(turn.proved))}
     if turn.compared:
         told["compared"] = turn.compared
     if turn.compared == "differs":
         told["given"] = {**answer_object(answer_of(turn.given)), "hex": turn.given.hex()}
+    if turn.unlogged:
+        told["not_logged"] = refusal_object(turn.unlogged)
     return told
+
+
+class Noted:
+    """How many of a kind there are, and the numbers of the first few."""
+
+    def __init__(self):
+        self.count = 0
+        self.first = []
+
+    def add(self, number):
+        self.count += 1
+        if len(self.first) < NAMED:
+            self.first.append(number)
+
+    def of(self, thing, one, several):
+        """How many things are so, in words."""
+        more = self.count - len(self.first)
+        named = f" (number {', '.join(map(str, self.first))}{f' and {more} more' if more else ''})" if self.first else ""
+        return f"{words.count(self.count, thing)} {one if self.count == 1 else several}{named}"
 
 
 class Counts:
@@ -112,42 +142,38 @@ class Counts:
 
     def __init__(self):
         self.answered = 0
-        self.places = {"differs": [], "missing": []}
-        self.counts = {"differs": 0, "missing": 0}
+        self.differs, self.missing, self.unlogged = Noted(), Noted(), Noted()
         self.further = 0
         self.broken = 0
 
     def add(self, turn):
         self.answered += 1
-        if turn.compared in self.counts:
-            self.counts[turn.compared] += 1
-            if len(self.places[turn.compared]) < NAMED:
-                self.places[turn.compared].append(turn.place + 1)
+        for noted, so in ((self.differs, turn.compared == "differs"), (self.missing, turn.compared == "missing"), (self.unlogged, turn.unlogged)):
+            if so:
+                noted.add(turn.place + 1)
 
-    def named(self, what):
-        """The numbers of the first few."""
-        places, more = self.places[what], self.counts[what] - len(self.places[what])
-        return f" (number {', '.join(map(str, places))}{f' and {more} more' if more else ''})" if places else ""
-
-    def lines(self, comparing):
+    def lines(self, comparing, log):
         if self.broken:
             yield f"the last question is broken: it has {self.broken} of {RECORD} bytes, and gets no answer"
         line = f"{words.count(self.answered, 'question')} answered"
         if comparing:
-            different, missing = self.counts["differs"], self.counts["missing"]
-            line += f"; {words.count(different, 'given answer')} {'differs' if different == 1 else 'differ'}{self.named('differs')}"
-            if missing:
-                line += f"; {words.count(missing, 'answer')} {'is' if missing == 1 else 'are'} missing{self.named('missing')}"
+            line += f"; {self.differs.of('given answer', 'differs', 'differ')}"
+            if self.missing.count:
+                line += f"; {self.missing.of('answer', 'is missing', 'are missing')}"
         yield line
         if self.further:
             yield f"{words.count(self.further, 'given answer')} more than questions"
+        if log:
+            line = f"{words.count(log.appended, 'entry')} appended to {visible(log.path)}, which has {log.count} in {words.count(log.end, 'byte')}"
+            yield line + (f"; {self.unlogged.of('answer', 'is not logged', 'are not logged')}" if self.unlogged.count else "")
 
-    def object(self, by):
-        told = {"questions": self.answered, "differ": self.counts["differs"], "missing": self.counts["missing"]}
-        return {"summary": {**told, "further": self.further, "broken_bytes": self.broken, "answered_by": by}}
+    def object(self, by, log):
+        told = {"questions": self.answered, "differ": self.differs.count, "missing": self.missing.count}
+        told |= {"further": self.further, "broken_bytes": self.broken, "answered_by": by}
+        return {"summary": told | ({"logged": log.appended, "not_logged": self.unlogged.count} if log else {})}
 
     def status(self):
-        return DIFFERENT if self.further or any(self.counts.values()) else ANSWERED
+        return DIFFERENT if self.further or self.differs.count or self.missing.count or self.unlogged.count else ANSWERED
 
 
 class Progress:
@@ -155,7 +181,8 @@ class Progress:
 
     WAIT = 1.0  # seconds between two
 
-    def __init__(self, quiet):
+    def __init__(self, quiet, what="questions answered"):
+        self.what = what
         # where the answers themselves go to the terminal they show how far it is
         self.shown = sys.stderr is not None and sys.stderr.isatty() and (quiet or not sys.stdout.isatty())
         self.last = time.monotonic()
@@ -164,7 +191,7 @@ class Progress:
     def at(self, count):
         if self.shown and time.monotonic() - self.last >= self.WAIT:
             self.last = time.monotonic()
-            line = f"{count} questions answered .."
+            line = f"{count} {self.what} .."
             sys.stderr.write("\r" + line)
             sys.stderr.flush()
             self.length = len(line)
@@ -199,8 +226,35 @@ def turns(pieces, answers_to, given, counts):
     counts.broken = len(rest)
 
 
+def logged(batch, log, calls, floor):
+    """Appends the questions with their answers and routes to the log. Gives them again, with the refusals of those that it does not take, and the trouble
+    that came up, if any."""
+    noted, entries = [], []
+    for turn in batch:
+        entry = calls.write_entry(turn.asked, turn.proved, first_route(calls, floor, turn.asked, turn.proved))
+        refused = isinstance(entry, Refusal)
+        noted.append(turn._replace(unlogged=entry) if refused else turn)
+        entries += [] if refused else [entry]
+    try:
+        log.append(entries)
+    except Trouble as trouble:
+        return noted, trouble
+    return noted, None
+
+
+def tell_batch(given, batch, floor, out):
+    """Tells all, or only what differs, is missing or is not logged."""
+    told = [turn for turn in batch if not given.quiet or turn.compared in ("differs", "missing") or turn.unlogged]
+    if given.json:
+        for turn in told:
+            out.object(turn_object(turn, floor))
+    elif told:
+        out.lines([line for turn in told for line in turn_lines(turn, floor)])
+
+
 def replay(given, calls, floor, text, out):
     """Answers a file of questions as it is read; gives the exit status."""
+    log = None if given.log is None else Log(calls, given.log)
     claimed = None if given.answers is None else GivenAnswers(given.answers)
     counts, progress = Counts(), Progress(given.quiet)
     by = BY_BOTH if is_for_program(floor, text) else BY_LIBRARY
@@ -209,22 +263,20 @@ def replay(given, calls, floor, text, out):
     try:
         with answering(calls, floor, text) as answers_to:
             for batch in turns(arriving(given.replay), answers_to, claimed, counts):
+                batch, trouble = logged(batch, log, calls, floor) if log else (batch, None)
                 for turn in batch:
                     counts.add(turn)
-                told = [turn for turn in batch if not given.quiet or turn.compared in ("differs", "missing")]
-                if given.json:
-                    for turn in told:
-                        out.object(turn_object(turn, floor))
-                elif told:
-                    out.lines([line for turn in told for line in turn_lines(turn, floor)])
+                tell_batch(given, batch, floor, out)
+                if trouble:
+                    raise trouble
                 progress.at(counts.answered)
     finally:
         progress.done()
     counts.further = claimed.left() if claimed else 0
     if given.json:
-        out.object({**about_map(given.map, floor), **counts.object(["planner"] if by == BY_BOTH else ["library"])})
+        out.object({**about_map(given.map, floor), **counts.object(["planner"] if by == BY_BOTH else ["library"], log)})
     else:
-        out.lines(counts.lines(claimed is not None))
+        out.lines(counts.lines(claimed is not None, log))
     return counts.status()
 
 

@@ -35,6 +35,10 @@ NUMBERS = {
     44: "a step cuts a corner",
     45: "the route does not end at the goal",
     46: "the route costs something else than was claimed",
+    61: "the file ends inside an entry",
+    62: "the answer is none that can be logged",
+    63: "a direction is above 7, or the route's last record is not filled up with 255",
+    64: "the room is shorter than the route or the entry",
 }
 KINDS = {REFUSED: "refused", FOUND: "found", NONE: "none", STOPPED: "stopped"}
 
@@ -42,7 +46,8 @@ CELL_CHARACTERS = "cells are . and G (weight 1), 1 to 9 (their own weight), @, O
 
 
 def count(number, thing):
-    return f"{number} {thing}" if number == 1 else f"{number} {thing}s"
+    several = f"{thing[:-1]}ies" if thing.endswith("y") else f"{thing}s"
+    return f"{number} {thing if number == 1 else several}"
 
 
 def meaning(number):
@@ -57,13 +62,18 @@ def verdict(given, floor, route, start):
     """One line for what the check says of a claimed route."""
     if given.kind == HOLDS:
         return f"the claim holds: {count(len(route), 'step')} at cost {given.cost}"
+    return f"the claim is {'' if given.kind == REFUSED else 'wrong, '}{objection(given, floor, route, start)}"
+
+
+def objection(given, floor, route, start):
+    """Why the check does not take a claimed route."""
     if given.kind == REFUSED:
-        return f"the claim is {refusal(given.number)}"
+        return refusal(given.number)
     if given.number in (45, 46):
-        return f"the claim is wrong, fault {given.number} after all {count(given.place, 'step')}: {meaning(given.number)}"
+        return f"fault {given.number} after all {count(given.place, 'step')}: {meaning(given.number)}"
     left = place(floor, cells_of(floor, start, route[: given.place])[-1])
     way = DIRECTIONS[route[given.place]][0] if route[given.place] < len(DIRECTIONS) else str(route[given.place])
-    return f"the claim is wrong, fault {given.number} at step {given.place + 1}, {way} from {left}: {meaning(given.number)}"
+    return f"fault {given.number} at step {given.place + 1}, {way} from {left}: {meaning(given.number)}"
 
 
 def answer(given):
@@ -97,7 +107,9 @@ def oddities(given):
 
 
 def place(floor, cell):
-    """A cell as x,y, as far as it is on the map."""
+    """A cell as x,y, as far as it is on the map; as its number where there is no map."""
+    if floor is None:
+        return f"cell {cell}"
     if cell >= floor.width * floor.height:
         return f"cell {cell} (off the map)"
     return f"({cell % floor.width},{cell // floor.width})"
@@ -142,6 +154,22 @@ def listed(name, parts, columns):
             lines.append(" ")
         lines[-1] += " " + part
     return lines
+
+
+MOST_LOGGED = 4095
+
+
+def not_logged(refused, answer):
+    """One line for an answer that the log's writer refuses."""
+    long = f"; its route has {count(answer.length, 'step')}, and a logged one at most {MOST_LOGGED}" if answer.length > MOST_LOGGED else ""
+    return f"NOT LOGGED: {refusal(refused.number)}{long}"
+
+
+def torn_log_advice(number, at):
+    """What to do about a log that is not to be appended to."""
+    if number == 61:
+        return f"log to another file, or cut this one with truncate -s {at}"
+    return "log to another file; is this one a route log?"
 
 
 def line_and_column(text, offset):
