@@ -1,4 +1,4 @@
-"""A search of its own for the tests: 01's rules, a heap, and nothing of the project."""
+"""A search and a route log of its own for the tests: 01's rules and R-1's, a heap, and nothing of the project."""
 import heapq
 import struct
 
@@ -81,3 +81,16 @@ def answer(text, record):
     if goal not in costs and len(listed) <= limit:
         return struct.pack("<BBxxIII", 2, 0, len(listed), MARK, 0)
     return struct.pack("<BBxxIII", 3, 0, limit, costs[listed[limit]], 0)
+
+
+def entry(record, answered, route=()):
+    """An entry of a route log: question, answer, and the directions in records, the last filled up with 255."""
+    return record + answered + bytes(route) + b"\xff" * (-len(route) % 16)
+
+
+def entry_on(text, record):
+    """The entry for a question record on a map."""
+    rows, answered = rows_of(text), answer(text, record)
+    start, goal, _, ways, _ = struct.unpack("<IIIB3s", record)
+    route = first_route(rows, ways, least_costs(rows, ways, start), start, goal) if answered[0] == 1 else ()
+    return entry(record, answered, route)

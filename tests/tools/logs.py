@@ -1,0 +1,332 @@
+"""Route logs: what is appended is what R-1 says, byte for byte; what is shown, checked and asked again; torn logs, full disks, two who append at once."""
+import fcntl
+import json
+import os
+import random
+import re
+import struct
+import subprocess
+import time
+from pathlib import Path
+
+import reference
+from common import ASK, HALLS, LONG, environment, expect, expect_run, run, text_of, written
+
+FURNACE, QUESTIONS = HALLS / "furnace.map", HALLS / "furnace.questions"
+A = ".@./..."  # case a
+
+
+def asked(start, goal, limit=4294967295, ways=8, zeros=b"\0\0\0"):
+    return struct.pack("<IIIB3s", start, goal, limit, ways, zeros)
+
+
+def answered(kind, settled=0, number=0, length=0, refusal=0):
+    return struct.pack("<BBxxIII", kind, refusal, settled, number, length)
+
+
+def records(data):
+    return [data[at : at + 16] for at in range(0, len(data), 16)]
+
+
+CASE_A = reference.entry(asked(0, 2, 5), answered(1, 5, 280, 4), (4, 2, 2, 0))
+NONE = reference.entry(asked(0, 2), answered(2, 1, 4294967295))
+REFUSED = reference.entry(asked(0, 9, ways=7, zeros=b"\1\2\3"), answered(0, refusal=13))
+
+
+def read(log, status, said=(), words=(), **more):
+    """A log that is read, in words."""
+    return expect_run([*words, "--read-log", log], status, said, **more)
+
+
+def objects(log, status, words=()):
+    """A log that is read, as objects: its entries, and the summary."""
+    *entries, last = [json.loads(line) for line in expect_run([*words, "--read-log", log, "--json"], status).split("\n")[:-1]]
+    return entries, last["summary"]
+
+
+def bytes_told(entries):
+    """The entries as R-1 writes them, from the objects."""
+    return b"".join(reference.entry(bytes.fromhex(each["asked_hex"]), bytes.fromhex(each["answered_hex"]), each.get("route", ())) for each in entries)
+
+
+# ---- appended
+
+
+def test_logged(folder):
+    log, text = Path(folder, "shift.log"), FURNACE.read_bytes()
+    due = b"".join(reference.entry_on(text, record) for record in records(QUESTIONS.read_bytes()))
+    expect_run([FURNACE, "--replay", QUESTIONS, "--log", log], 0, ["18 questions answered\n", f"18 entries appended to {log}, which has 18 in {len(due)} bytes"])
+    expect("a replay as logged", log.read_bytes() == due, log.read_bytes().hex(" "))
+    words = [FURNACE, "--from", "3,12", "--to", "43,12", "--log", log]
+    one = reference.entry_on(text, asked(12 * 48 + 3, 12 * 48 + 43))
+    expect_run([*words, "--quiet"], 0, ["found at cost 3290", f"logged in {log} as entry 19, bytes {len(due)} to {len(due) + len(one) - 1}"])
+    expect("a question as logged", log.read_bytes() == due + one)
+    told = json.loads(expect_run([*words[:-3], "1,24", "--log", log, "--json"], 1))
+    two = reference.entry_on(text, asked(12 * 48 + 3, 4294967295))
+    expect("a refused question is logged too", log.read_bytes() == due + one + two and told["kind"] == "refused", told)
+    expect("and said so", told["logged"] == {"entry": 20, "byte": len(due + one), "bytes": 32}, told)
+    told = json.loads(expect_run([FURNACE, "--replay", QUESTIONS, "--log", log, "--json", "--quiet"], 0))
+    expect("what was there stays", log.read_bytes() == due + one + two + due and told["summary"]["logged"] == 18, told)
+    entries, summary = objects(log, 0, [FURNACE])
+    expect("what is written reads back", bytes_told(entries) == log.read_bytes() and summary["entries"] == 38 and summary["torn"] is None, summary)
+    expect("and is as proved", {each["compared"] for each in entries} == {"same"} and summary["checked"] == sum("route" in each for each in entries), summary)
+    print("tools: logs: every kind of answer, byte for byte as the test writes it, and read back")
+
+
+def serpentine(width, rows):
+    """A passage one cell wide, and its cells from one end to the other."""
+    lines, cells = [], []
+    for y in range(2 * rows - 1):
+        turn = width - 1 if y % 4 == 1 else 0
+        lines.append("." * width if y % 2 == 0 else "@" * turn + "." + "@" * (width - 1 - turn))
+        passed = [turn] if y % 2 else range(width) if y % 4 == 0 else range(width - 1, -1, -1)
+        cells += [y * width + x for x in passed]
+    return text_of(lines), cells
+
+
+def test_long_routes(folder):
+    """A route of 4,095 steps is logged; one more step cannot be, which is said, and the others are."""
+    text, cells = serpentine(130, 33)
+    hall, log, replayed = written(folder, "long.map", text), Path(folder, "long.log"), Path(folder, "all.log")
+    most, more = asked(0, cells[4095]), asked(0, cells[4096])
+    due = reference.entry_on(text.encode(), most)
+    expect("4,095 steps", len(due) == 32 + 4096 and due[-1] == 255 and due[-2] < 8)
+    questions = written(folder, "long.questions", most + more + most)
+    said = ["   2  ", "NOT LOGGED: refused 62: ", "its route has 4096 steps, and a logged one at most 4095", "2 entries appended", "1 answer is not logged (number 2)"]
+    expect_run([hall, "--replay", questions, "--log", replayed, "--quiet"], 1, said)
+    expect("the others are logged", replayed.read_bytes() == due + due)
+    goal = f"{cells[4096] % 130},{cells[4096] // 130}"
+    words = [hall, "--from", "0,0", "--to", goal, "--log", log]
+    expect_run([*words, "--quiet"], 1, ["in 4096 steps", "NOT LOGGED: refused 62: "])
+    told = json.loads(expect_run([*words, "--json"], 1))
+    expect("not logged, as an object", told["logged"]["refusal"] == 62 and told["steps"] == 4096 and log.read_bytes() == b"", told)
+    entries, summary = objects(replayed, 0, [hall])
+    expect("and read again", bytes_told(entries) == due + due and summary["answered_by"] == ["library"] and summary["differ"] == 0, summary)
+    print("tools: logs: a route of 4095 steps is logged, one of 4096 is not")
+
+
+# ---- read
+
+
+def test_shown(folder):
+    """Entries in words, without the map and with it, and quietly."""
+    log = written(folder, "three.log", CASE_A + NONE + REFUSED)
+    out = read(log, 0, [
+        "three.log; without a map cells are numbers, and nothing is checked or asked again\n",
+        "   1  cell 0 to cell 2, 8 ways, limit 5\n      found at cost 280 in 4 steps; 5 cells settled\n      route: 1 S, 2 E, 1 N\n",
+        "   2  cell 0 to cell 2, 8 ways, no limit\n      none: no route leads to the goal",
+        "   3  cell 0 to cell 9, 7 ways, no limit, last bytes 01 02 03\n      refused 13: ", "3 entries in 112 bytes\n",
+    ])
+    expect("nothing is claimed without a map", "WRONG" not in out and "DIFFERS" not in out and "checked;" not in out, out)
+    same = written(folder, "same.log", CASE_A + REFUSED + CASE_A)
+    hall = written(folder, "a.map", text_of(A))
+    read(same, 0, [
+        "a.map: 3 wide, 2 high; same.log, asked again and answered by the program\n", "   1  (0,0) to (2,0), 8 ways, limit 5\n      found at cost 280",
+        "(0,0) to cell 9 (off the map), 7 ways, no limit, last bytes 01 02 03", "3 entries in 128 bytes; 2 routes checked; 0 routes are wrong; 0 entries differ\n",
+    ], [hall])
+    quiet = read(same, 0, ["3 entries in 128 bytes; 2 routes checked"], [hall, "--quiet"])
+    expect("quietly", quiet.count("\n") == 2, quiet)
+    read(written(folder, "empty.log", b""), 0, ["0 entries in 0 bytes\n"])
+    with open(same, "rb") as stream:
+        read("-", 0, ["standard input; without a map", "3 entries in 128 bytes"], stdin=stream)
+    pipe = Path(folder, "pipe")
+    os.mkfifo(pipe)
+    feed = subprocess.Popen(["cp", str(same), str(pipe)])
+    read(pipe, 0, ["3 entries in 128 bytes; 2 routes checked"], [hall])
+    feed.kill()
+    feed.wait()
+    print("tools: logs: shown without the map, with it, quietly, from a pipe")
+
+
+def test_long_logs(folder):
+    """Entries of every length up to the longest, at any place of a file that is longer than what is held of it."""
+    generator = random.Random(3)
+    lengths = [4095, 0, 480, 481, 464, 4095, 4080, *(generator.randrange(4096) for _ in range(30)), 4095, 0]
+    entries = [
+        reference.entry(generator.randbytes(16), answered(1, 7, 5, length), generator.choices(range(8), k=length)) for length in lengths
+    ]
+    log = b"".join(entries)
+    told, summary = objects(written(folder, "long.log", log), 0)
+    expect("a long log", bytes_told(told) == log and summary == {"entries": len(lengths), "bytes": len(log), "torn": None}, summary)
+    torn = log + entries[0][:-1]
+    told, summary = objects(written(folder, "long.log", torn), 1)
+    expect("a long log, torn", bytes_told(told) == log and (summary["torn"]["byte"], summary["torn"]["refusal"]) == (len(log), 61), summary)
+    print(f"tools: logs: {len(log)} bytes with routes of up to 4095 steps")
+
+
+# Each is a rest that no entry begins, its refusal, and how much of an entry there is.
+TORN = (
+    (CASE_A[:47], 61, "47 bytes"), (CASE_A[:1], 61, "1 byte"), (CASE_A[:16], 61, "16 bytes"), (NONE[:31], 61, "31 bytes"),
+    (reference.entry(asked(0, 2), answered(0, refusal=16)), 62, None), (reference.entry(asked(0, 2), answered(1, 5, 280, 4096)), 62, None),
+    (CASE_A[:32], 61, "32 bytes"), (reference.entry(asked(0, 2), answered(1, 5, 280, 4), (4, 2, 8, 0)) + CASE_A, 63, None), (CASE_A[:-1] + b"\0", 63, None),
+)
+REASONS = {
+    61: "refused 61: the file ends inside an entry, of which it has ", 62: "refused 62: the answer is none that can be logged",
+    63: "refused 63: a direction is above 7, or the route's last record is not filled up with 255",
+}
+
+
+def test_torn(folder):
+    """The entries before the break are shown, then where it is and why."""
+    whole = CASE_A + REFUSED
+    for rest, number, has in TORN:
+        log = written(folder, "torn.log", whole + rest)
+        out = read(log, 1, [f"the log breaks off at byte 80, where entry 3 begins: {REASONS[number]}{has or ''}\n2 entries in 80 bytes\n"])
+        expect(f"the entries before {rest.hex()}", out.count(" ways, ") == 2, out)
+    entries, summary = objects(log, 1)
+    expect("torn, as objects", bytes_told(entries) == whole and summary["torn"]["byte"] == 80 and summary["torn"]["refusal"] == 63, summary)
+    hall = written(folder, "a.map", text_of(A))
+    read(log, 1, ["breaks off at byte 80", "1 route checked; 0 routes are wrong; 0 entries differ"], [hall, "--quiet"])
+    read(hall, 1, ["the log breaks off at byte 0, where entry 1 begins: refused 62", "0 entries in 0 bytes"])
+    print(f"tools: logs: torn in {len(TORN)} ways")
+
+
+def differing(text):
+    """Entries on a floor of 3 by 2, each with what is said of it beside its own words."""
+    to_east, four = asked(0, 5), asked(0, 2, ways=4)
+    first = reference.entry_on(text, to_east)
+    proved, route = first[16:32], first[32:34]
+    another, answer, claimed = "; the proved route is ", "; the proved answer is ", ", checked as a claimed route: "
+    logged = f" logged {{}} proved {proved.hex(' ')}"
+    return (
+        (first, []),
+        (reference.entry(to_east, proved, route[::-1]), ["DIFFERS", "; its route holds, but the first of this cost is 1 SE, 1 E"]),
+        (
+            reference.entry(to_east, answered(1, 6, 210, 3), (4, 2, 2)),
+            ["DIFFERS", f"{answer}found at cost 169 in 2 steps; 6 cells settled{logged.format(answered(1, 6, 210, 3).hex(' '))}", "DIFFERS", f"{another}1 SE, 1 E"],
+        ),
+        (
+            reference.entry(four, reference.answer(text, four), (2, 3)),
+            ["WRONG", f"{claimed}fault 41 at step 2, SE from (1,0): a direction is", "DIFFERS", f"{another}2 E"],
+        ),
+        (
+            reference.entry(to_east, answered(1, 6, 170, 2), route),
+            ["WRONG", f"{claimed}fault 46 after all 2 steps", "DIFFERS", f"{answer}found at cost 169"],
+        ),
+        (reference.entry(to_east, answered(1, 5, 169, 2), route), ["DIFFERS", f"{answer}found at cost 169 in 2 steps; 6 cells settled"]),
+        (reference.entry(to_east, answered(2, 6, 4294967295)), ["DIFFERS", f"{answer}found at cost 169"]),
+        (reference.entry(asked(0, 5, ways=7), proved, route), ["WRONG", f"{claimed}refused 4: ways is neither", "DIFFERS", f"{answer}refused 4"]),
+        (reference.entry(asked(0, 5, zeros=b"\0\0\1"), proved, route), ["DIFFERS", f"{answer}refused 13"]),
+        (reference.entry(asked(0, 0), answered(1, 1, 140, 2), (2, 6)), ["DIFFERS", f"{answer}found at cost 0", "DIFFERS", f"{another}no step"]),
+    )
+
+
+def test_differs(folder):
+    """Answers and routes of a log that are not the proved ones, and routes that the check does not take."""
+    hall = written(folder, "b.map", text_of(".../..."))
+    cases = differing(hall.read_bytes())
+    log = written(folder, "differs.log", b"".join(entry for entry, _ in cases))
+    total = "10 entries in 464 bytes; 9 routes checked; 3 routes are wrong (number 4, 5, 8); 9 entries differ (number 2, 3, 4, 5, 6, 7, 8, 9 and 1 more)\n"
+    told = [" ".join(part.split()) for part in re.split(r"^ {2,3}(?=\d+  )", read(log, 1, [total], [hall]), flags=re.MULTILINE)[1:]]
+    for number, ((entry, said), shown) in enumerate(zip(cases, told, strict=True), 1):
+        begin = sum(len(before) for before, _ in cases[: number - 1])
+        good = all(piece in shown for piece in said) and all(shown.count(word) == said.count(word) for word in ("DIFFERS", "WRONG"))
+        good = good and shown.count(f": entry {number} (bytes {begin} to {begin + len(entry) - 1})") == len(said) // 2
+        expect(f"entry {number} of a log that differs", good, shown)
+    quiet = read(log, 1, [total], [hall, "--quiet"])
+    expect("quietly all but the first", len(re.findall(r"^ {2,3}\d+  ", quiet, re.MULTILINE)) == 9 and "\n   1  " not in quiet, quiet)
+    entries, summary = objects(log, 1, [hall])
+    expect("as objects", [each["compared"] for each in entries] == ["differs" if said else "same" for _, said in cases], entries)
+    expect("checked", [each["check"]["kind"] for each in entries if "check" in each] == ["holds"] * 3 + ["fault"] * 2 + ["holds", "refused"] + ["holds"] * 2, entries)
+    expect("the first route", entries[1]["proved"]["route"] == [3, 2] and entries[1]["route"] == [2, 3], entries[1])
+    expect("counted", (summary["wrong"], summary["differ"], summary["checked"]) == (3, 9, 9), summary)
+    print(f"tools: logs: {len(cases)} entries whose answers or routes are not the proved ones")
+
+
+# ---- not appended
+
+
+def test_not_appended(folder):
+    """A log that does not end where an entry ends, and what is no plain file: nothing is asked, nothing is written."""
+    hall = written(folder, "a.map", text_of(A))
+    words = [hall, "--from", "0,0", "--to", "2,0", "--limit", "5", "--quiet", "--log"]
+    for rest, number, _ in TORN[::4]:  # one of each number
+        log = written(folder, "torn.log", CASE_A + REFUSED + rest)
+        advice = "cut this one with truncate -s 80" if number == 61 else "is this one a route log?"
+        complained = [f"torn.log breaks off at byte 80, where entry 3 begins: {REASONS[number]}", "2 entries before it are whole. Nothing is appended", advice]
+        out = expect_run([*words, log], 2, [], complained)
+        expect("nothing is asked or written then", out == "" and log.read_bytes() == CASE_A + REFUSED + rest, out)
+    out = expect_run([hall, "--replay", "-", "--log", log], 2, [], ["breaks off at byte 80"], stdin=subprocess.DEVNULL)
+    expect("nor replayed", out == "" and log.read_bytes() == CASE_A + REFUSED + rest, out)
+    os.truncate(log, 80)
+    expect_run([*words, log], 0, ["as entry 3, bytes 80 to 127"])
+    expect("appended when cut as said", log.read_bytes() == CASE_A + REFUSED + CASE_A)
+    pipe = Path(folder, "pipe")
+    os.mkfifo(pipe)
+    for path, complained in (
+        (folder, "cannot be opened: Is a directory"), ("/dev/full", "the log /dev/full is no plain file"), (pipe, "pipe is no plain file"),
+        (Path(folder, "no", "such.log"), "cannot be opened: No such file or directory"), (hall, "breaks off at byte 0, where entry 1 begins: refused 62"),
+    ):
+        expect("nothing is answered then", expect_run([*words, path], 2, [], [complained]) == "")
+    expect_run([written(folder, "bad.map", "type tile\n"), *words[1:], Path(folder, "new.log")], 1, ["map refused 21"])
+    expect("no log for a map that is refused", not Path(folder, "new.log").exists() and hall.read_text() == text_of(A))
+    print("tools: logs: torn ones and what is no plain file are left as they are")
+
+
+def test_full_disk(folder):
+    """Where an entry does not fit, nothing of it is left, and what was answered is told."""
+    hall = written(folder, "a.map", text_of(A))
+    questions = written(folder, "some.questions", CASE_A[:16] * 3)
+    limited = ["bash", "-c", 'ulimit -f 4; exec "$@"', "bash", *ASK]  # 4 KB
+    ends = "File too large; it ends with its last whole entry, at byte {}, and has {} entries"
+    before = NONE * 127  # 32 bytes short of the limit
+    log = written(folder, "full.log", before)
+    words = [hall, "--from", "0,0", "--to", "2,0", "--limit", "5", "--quiet", "--log", log]
+    out = expect_run(words, 2, ["found at cost 280"], [f"full.log takes no more: {ends.format(4064, 127)}"], command=limited)
+    expect("the log is as it was", log.read_bytes() == before and "logged" not in out, out)
+    told = json.loads(expect_run([*words, "--json"], 2, [], ["takes no more"], command=limited))
+    expect("as an object", told["cost"] == 280 and told["logged"] is None and log.read_bytes() == before, told)
+    before = NONE * 125  # room for two of three
+    log.write_bytes(before)
+    out = expect_run([hall, "--replay", questions, "--log", log], 2, ["   3  "], [ends.format(4096, 127)], command=limited)
+    expect("what fits is logged", log.read_bytes() == before + CASE_A * 2 and "appended" not in out, out)
+    expect_run(words, 0, ["as entry 128, bytes 4096 to 4143"])
+    print("tools: logs: a disk that is full leaves whole entries alone")
+
+
+def test_appenders(folder):
+    """Who appends while another does waits; what both append is whole."""
+    log, one = Path(folder, "both.log"), b"".join(reference.entry_on(FURNACE.read_bytes(), record) for record in records(QUESTIONS.read_bytes()))
+    words = [*ASK, str(FURNACE), "--replay", str(QUESTIONS), "--quiet", "--log", str(log)]
+    with open(log, "wb") as held:
+        fcntl.flock(held, fcntl.LOCK_EX)
+        both = [subprocess.Popen(words, stdout=subprocess.DEVNULL, stderr=subprocess.PIPE, env=environment()) for _ in range(2)]
+        time.sleep(1.5)
+        expect("who appends waits", [each.poll() for each in both] == [None, None] and log.read_bytes() == b"", log.read_bytes())
+    for each in both:
+        _, err = each.communicate(timeout=LONG)
+        expect("two append", each.returncode == 0 and not err, err)
+    expect("each batch is whole", log.read_bytes() == one * 2, log.read_bytes().hex())
+    read(log, 0, ["36 entries in"], ["--quiet"])
+    print("tools: logs: two who append at once")
+
+
+def test_log_usage(folder):
+    hall, log = HALLS / "row.map", Path(folder, "no.log")
+    ends = ["--from", "0,0", "--to", "1,0"]
+    for words, complained in (
+        (["--log", log], "the following arguments are required: MAP"),
+        ([*ends, "--log", log], "the following arguments are required: MAP"),
+        ([hall, *ends, "--read-log", log], "--read-log does not go with --from x,y and --to x,y"),
+        (["--read-log", log, "--log", log], "--read-log does not go with --log"),
+        (["--read-log", log, "--replay", log], "--read-log does not go with --replay"),
+        ([hall, "--read-log", log, "--answers", log, "--svg", "-"], "--read-log does not go with --svg and --answers"),
+        ([hall, *ends, "--check", "2", "--cost", "1", "--log", log], "--check does not go with --log"),
+        ([hall, "--from", "0,0", "--costs", "--log", log], "--costs does not go with --log"),
+        ([hall, *ends, "--write-questions", log, "--log", log], "--write-questions does not go with --log"),
+        ([hall, *ends, "--log", "-"], "--log appends to a plain file, and - is none"),
+    ):
+        expect_run(words, 2, [], ["./run: ", complained, "'./run --help' lists all words"])
+    for words, complained in (
+        ([hall, "--read-log", log], "no.log cannot be opened: No such file or directory"), (["--read-log", folder], "cannot be opened: Is a directory"),
+        ([folder, "--read-log", log], "the map"),
+    ):
+        expect_run(words, 2, [], [complained])
+    expect("nothing is made", not log.exists())
+    ended, _, err = run(["-c", 'exec "$@" <&-', "bash", *ASK, "--read-log", "-"], command=["bash"])
+    expect("a closed input", ended == 2 and "Traceback" not in err and err.count("\n") == 1, err)
+    with open("/dev/full", "wb") as full:
+        ended, _, err = run(["--read-log", written(folder, "a.log", CASE_A)], stdout=full)
+        expect("a full disk for what is shown", ended == 2 and "No space left on device" in err and "Traceback" not in err, err)
+    expect_run(["--help"], 0, ["--log FILE", "--read-log FILE", "route log"])
+    print("tools: logs: wrong usage and missing files")
