@@ -251,6 +251,14 @@ def test_not_appended(folder):
     os.truncate(log, 80)
     expect_run([*words, log], 0, ["as entry 3, bytes 80 to 127"])
     expect("appended when cut as said", log.read_bytes() == CASE_A + REFUSED + CASE_A)
+    held = log.read_bytes()
+    for more, what in (
+        (["--replay", log], "the file of questions"), (["--replay", QUESTIONS, "--answers", log], "the file of answers"), ([*words[1:-1], "--svg", log], "the picture"),
+    ):
+        expect_run([hall, *more, "--log", log], 2, [], [f"torn.log is {what} too; choose another file"])
+    with open(log, "rb") as stream:
+        expect_run([hall, "--replay", "-", "--log", log], 2, [], ["the file of questions too"], stdin=stream)
+    expect("a log is no other file", log.read_bytes() == held)
     pipe = Path(folder, "pipe")
     os.mkfifo(pipe)
     for path, complained in (
@@ -299,6 +307,39 @@ def test_appenders(folder):
     expect("each batch is whole", log.read_bytes() == one * 2, log.read_bytes().hex())
     read(log, 0, ["36 entries in"], ["--quiet"])
     print("tools: logs: two who append at once")
+
+
+def soon(holds):
+    """Whether it comes to hold."""
+    until = time.monotonic() + LONG
+    while not holds() and time.monotonic() < until:
+        time.sleep(0.02)
+    return holds()
+
+
+def test_meanwhile(folder):
+    """What happens to a log between two questions of a replay: entries of another stay, and a log that is torn or cut then is left as it is."""
+    hall, log, pipe = written(folder, "a.map", text_of(A)), Path(folder, "long.log"), Path(folder, "pipe")
+    os.mkfifo(pipe)
+    for left, complained in (
+        (CASE_A + NONE + CASE_A + b"torn", "breaks off at byte 128, where entry 4 begins: refused 61"), (NONE, "has lost entries meanwhile, and has 32 bytes in place of 128"),
+    ):
+        log.write_bytes(b"")
+        words = [*ASK, str(hall), "--replay", str(pipe), "--log", str(log)]
+        process = subprocess.Popen(words, stdout=subprocess.PIPE, stderr=subprocess.PIPE, env=environment())
+        with open(pipe, "wb", buffering=0) as feed:
+            feed.write(CASE_A[:16])
+            expect("each answer is logged at once", soon(lambda: log.read_bytes() == CASE_A), log.read_bytes())
+            with open(log, "ab") as other:
+                other.write(NONE)
+            feed.write(CASE_A[:16])
+            expect("after what another has appended", soon(lambda: log.read_bytes() == CASE_A + NONE + CASE_A), log.read_bytes())
+            log.write_bytes(left)
+            feed.write(CASE_A[:16])
+        out, err = process.communicate(timeout=LONG)
+        good = process.returncode == 2 and complained in err.decode() and err.count(b"\n") == 1 and out.count(b"found at cost 280") == 3
+        expect(complained, good and log.read_bytes() == left, out + err)
+    print("tools: logs: what another does to a log meanwhile")
 
 
 def test_log_usage(folder):

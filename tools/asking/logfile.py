@@ -112,6 +112,12 @@ class Log:
     def trouble(self, what):
         return Trouble(f"{WHAT} {visible(self.path)} {what}")
 
+    def must_not_be(self, what, path):
+        """A file that is read while the log grows, or written anew, is another one; - is standard input."""
+        with suppress(OSError, ValueError):  # what cannot be looked at is told when it is opened
+            if path is not None and os.path.samestat(os.stat(0 if path == "-" else path), os.fstat(self.file.fileno())):
+                raise self.trouble(f"is {what} too; choose another file")
+
     @contextmanager
     def locked(self):
         """Meanwhile no other front end appends."""

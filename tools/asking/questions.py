@@ -153,6 +153,8 @@ def logged(told, log, outcome):
 
 def ask(given, calls, floor, text):
     log = None if given.log is None else Log(calls, given.log)
+    if log and given.svg != "-":
+        log.must_not_be("the picture", given.svg)
     outcome = search(calls, floor, text, given)
     root = terminal.marks_for(sys.stdout).root
     rooms = outcome.rooms

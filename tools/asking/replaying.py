@@ -255,6 +255,9 @@ def tell_batch(given, batch, floor, out):
 def replay(given, calls, floor, text, out):
     """Answers a file of questions as it is read; gives the exit status."""
     log = None if given.log is None else Log(calls, given.log)
+    if log:
+        log.must_not_be("the file of questions", given.replay)
+        log.must_not_be("the file of answers", given.answers)
     claimed = None if given.answers is None else GivenAnswers(given.answers)
     counts, progress = Counts(), Progress(given.quiet)
     by = BY_BOTH if is_for_program(floor, text) else BY_LIBRARY
