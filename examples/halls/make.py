@@ -1,5 +1,5 @@
 #!/usr/bin/env python3
-"""Makes the halls of this folder anew: maps, question records, and the answers of the proved planner to them.
+"""Makes the halls of this folder anew: maps, question records, the answers of the proved planner to them, and route logs.
 
     python3 examples/halls/make.py [FOLDER]      into this folder, or into another one to compare
 
@@ -12,7 +12,8 @@ HERE = Path(__file__).resolve().parent
 sys.path.insert(0, str(HERE.parents[1] / "tools"))
 sys.dont_write_bytecode = True
 
-from asking.programs import LARGEST, Planner, clean_up, question, record_of  # noqa: E402
+from asking.programs import LARGEST, Calls, Planner, clean_up, question, record_of, whole_records  # noqa: E402
+from asking.questions import first_route  # noqa: E402
 
 ALL = 4096
 
@@ -199,6 +200,15 @@ def answers(text, records):
         return planner.answers(records)
 
 
+def log(text, records):
+    """What ./run --replay --log appends for these questions."""
+    answered = answers(text, records)
+    with Calls() as calls:
+        floor = calls.read_map(text)
+        pairs = zip(whole_records(records), whole_records(answered))
+        return b"".join(calls.write_entry(record, answer, first_route(calls, floor, record, answer)) for record, answer in pairs)
+
+
 def main():
     folder = Path(sys.argv[1]) if len(sys.argv) > 1 else HERE
     for name, hall, questions in HALLS:
@@ -211,6 +221,9 @@ def main():
             # a log as of a planner that drops the smallest surcharge: to it the row is level floor
             dropped = text_of([[1 if weight == 2 else weight for weight in line] for line in rows])
             (folder / "row.old.answers").write_bytes(answers(dropped, records))
+            (folder / "row.old.log").write_bytes(log(dropped, records))
+        if name == "furnace":
+            (folder / "furnace.log").write_bytes(log(text, records))
         print(f"{name}: {len(records) // 16} questions")
 
 

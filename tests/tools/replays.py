@@ -18,7 +18,7 @@ def test_halls(folder):
     expect("examples/halls/make.py", ended == 0, out + err)
     count = 0
     for path in sorted(HALLS.iterdir()):
-        if path.suffix in (".map", ".questions", ".answers"):
+        if path.suffix in (".map", ".questions", ".answers", ".log"):
             made = Path(folder, path.name)
             expect(f"{path.name} is what make.py makes", made.exists() and made.read_bytes() == path.read_bytes())
     for hall in sorted(HALLS.glob("*.map")):
