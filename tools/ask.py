@@ -78,6 +78,7 @@ examples
   ./run examples/halls/furnace.map --from 3,12 --to 43,12
   ./run examples/halls/open.map --from 0,0 --to 63,63 --limit 1000 --svg open.svg
   ./run examples/halls/maze.map --replay examples/halls/maze.questions --answers examples/halls/maze.answers
+  ./run examples/halls/furnace.map --read-log examples/halls/furnace.log
 
 exit status
   0  answered; a claim holds; in a replay, no given answer differs or is missing; a log is whole, and nothing in it differs
@@ -172,6 +173,7 @@ WORDS = {
 
 
 def all_wanted(given):
+    """What is asked for; more than one thing does not go together."""
     asked = {
         "--read-log": given.read_log, "--replay": given.replay, "--write-questions": given.write_questions, "--check": given.check,
         "--costs": given.costs or None,
