@@ -29,6 +29,9 @@ try:
 except MemoryError:
     os.write(2, f"./run: {NO_MEMORY}\n".encode())
     os._exit(2)
+except ImportError as error:  # where modules are shared objects, too little memory looks like this
+    os.write(2, f"./run: a module of Python cannot be loaded, perhaps since {NO_MEMORY}; {error}\n".encode(errors="backslashreplace"))
+    os._exit(2)
 
 FAILED = 2
 
