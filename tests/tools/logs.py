@@ -162,7 +162,7 @@ TORN = (
 )
 REASONS = {
     61: "refused 61: the file ends inside an entry, of which it has ", 62: "refused 62: the answer is none that can be logged",
-    63: "refused 63: a direction is above 7, or the route's last record is not filled up with 255",
+    63: "refused 63: a direction is above 7, or a filler is not 255",
 }
 
 

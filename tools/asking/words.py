@@ -37,7 +37,7 @@ NUMBERS = {
     46: "the route costs something else than was claimed",
     61: "the file ends inside an entry",
     62: "the answer is none that can be logged",
-    63: "a direction is above 7, or the route's last record is not filled up with 255",
+    63: "a direction is above 7, or a filler is not 255",
     64: "the room is shorter than the route or the entry",
 }
 KINDS = {REFUSED: "refused", FOUND: "found", NONE: "none", STOPPED: "stopped"}
