@@ -126,7 +126,7 @@ def test_usage(folder):
         expect_run(words, 2, [], ["./run: ", complained])
     expect_run(["--help"], 0, ["usage: ./run", "exit status", "--replay QUESTIONS", "examples", "sqrt(2)"])
     header = (ROOT / "include" / "fradnumber.h").read_text(encoding="utf-8")
-    expect_run(["--version"], 0, ["fradnumber 1.1.0"] if "FRADNUMBER_VERSION 10100" in header else ["fradnumber"])
+    expect_run(["--version"], 0, ["fradnumber 1.2.0"] if "FRADNUMBER_VERSION 10200" in header else ["fradnumber"])
     print("tools: wrong usage and missing files")
 
 

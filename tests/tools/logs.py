@@ -225,6 +225,8 @@ def test_differs(folder):
         expect(f"entry {number} of a log that differs", good, shown)
     quiet = read(log, 1, [total], [hall, "--quiet"])
     expect("quietly all but the first", len(re.findall(r"^ {2,3}\d+  ", quiet, re.MULTILINE)) == 9 and "\n   1  " not in quiet, quiet)
+    told, _ = objects(log, 1, [hall, "--quiet"])
+    expect("and as objects", [each["entry"] for each in told] == list(range(2, 11)), told)
     entries, summary = objects(log, 1, [hall])
     expect("as objects", [each["compared"] for each in entries] == ["differs" if said else "same" for _, said in cases], entries)
     expect("checked", [each["check"]["kind"] for each in entries if "check" in each] == ["holds"] * 3 + ["fault"] * 2 + ["holds", "refused"] + ["holds"] * 2, entries)
