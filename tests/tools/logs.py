@@ -244,7 +244,7 @@ def test_not_appended(folder):
     words = [hall, "--from", "0,0", "--to", "2,0", "--limit", "5", "--quiet", "--log"]
     for rest, number, _ in TORN[::4]:  # one of each number
         log = written(folder, "torn.log", CASE_A + REFUSED + rest)
-        advice = "cut this one with truncate -s 80" if number == 61 else "is this one a route log?"
+        advice = "cut this one with truncate -s 80" if number == 61 else "this one is damaged there"
         complained = [f"torn.log breaks off at byte 80, where entry 3 begins: {REASONS[number]}", "2 entries before it are whole. Nothing is appended", advice]
         out = expect_run([*words, log], 2, [], complained)
         expect("nothing is asked or written then", out == "" and log.read_bytes() == CASE_A + REFUSED + rest, out)
@@ -265,7 +265,8 @@ def test_not_appended(folder):
     os.mkfifo(pipe)
     for path, complained in (
         (folder, "cannot be opened: Is a directory"), ("/dev/full", "the log /dev/full is no plain file"), (pipe, "pipe is no plain file"),
-        (Path(folder, "no", "such.log"), "cannot be opened: No such file or directory"), (hall, "breaks off at byte 0, where entry 1 begins: refused 62"),
+        (Path(folder, "no", "such.log"), "cannot be opened: No such file or directory"), (hall, "log to another file; this one may be no route log"),
+        (written(folder, "note.txt", "a note"), "0 entries before it are whole. Nothing is appended to it: log to another file; this one may be no route log"),
     ):
         expect("nothing is answered then", expect_run([*words, path], 2, [], [complained]) == "")
     expect_run([written(folder, "bad.map", "type tile\n"), *words[1:], Path(folder, "new.log")], 1, ["map refused 21"])

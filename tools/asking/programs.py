@@ -37,8 +37,9 @@ SEARCH, ROUTE_CLAIM, TABLE_CLAIM, READ_MAP, ANSWER_RECORDS, READ_ENTRY, WRITE_EN
 DIRECTIONS = (("N", 0, -1), ("NE", 1, -1), ("E", 1, 0), ("SE", 1, 1), ("S", 0, 1), ("SW", -1, 1), ("W", -1, 0), ("NW", -1, -1))
 
 RECORD = 16
-# No entry of a log is longer: question, answer, and the records that hold the longest route.
-LONGEST_ENTRY = 2 * RECORD + 4096
+# Of a route log, in steps and in bytes; the longest entry is a question, an answer, and as many records as hold the longest logged route.
+LONGEST_LOGGED_ROUTE = 4095
+LONGEST_ENTRY = 2 * RECORD + -(-LONGEST_LOGGED_ROUTE // RECORD) * RECORD
 QUESTION_LAYOUT = struct.Struct("<IIIB3s")
 ANSWER_LAYOUT = struct.Struct("<BB2sIII")
 HEAD_LAYOUT = struct.Struct("<18I")

@@ -1,7 +1,7 @@
 """Answers, refusals and differences in words."""
 import math
 
-from asking.programs import DIRECTIONS, FOUND, HOLDS, LARGEST, MARK, NONE, REFUSED, STOPPED, cells_of
+from asking.programs import DIRECTIONS, FOUND, HOLDS, LARGEST, LONGEST_LOGGED_ROUTE, MARK, NONE, REFUSED, STOPPED, cells_of
 
 # Refusals and faults, as docs/MANUAL.md has them ("Refusals and faults").
 NUMBERS = {
@@ -156,20 +156,21 @@ def listed(name, parts, columns):
     return lines
 
 
-MOST_LOGGED = 4095
-
-
 def not_logged(refused, answer):
     """One line for an answer that the log's writer refuses."""
-    long = f"; its route has {count(answer.length, 'step')}, and a logged one at most {MOST_LOGGED}" if answer.length > MOST_LOGGED else ""
-    return f"NOT LOGGED: {refusal(refused.number)}{long}"
+    line = f"NOT LOGGED: {refusal(refused.number)}"
+    if answer.length > LONGEST_LOGGED_ROUTE:
+        line += f"; its route has {count(answer.length, 'step')}, and a logged one at most {LONGEST_LOGGED_ROUTE}"
+    return line
 
 
 def torn_log_advice(number, at):
-    """What to do about a log that is not to be appended to."""
+    """What to do about a log that is not to be appended to, since what begins at that byte is refused."""
+    if at == 0:
+        return "log to another file; this one may be no route log"
     if number == 61:
         return f"log to another file, or cut this one with truncate -s {at}"
-    return "log to another file; is this one a route log?"
+    return "log to another file; this one is damaged there"
 
 
 def line_and_column(text, offset):
