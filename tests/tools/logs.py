@@ -295,6 +295,19 @@ def test_full_disk(folder):
     print("tools: logs: a disk that is full leaves whole entries alone")
 
 
+def soon(holds):
+    """Whether it comes to hold."""
+    until = time.monotonic() + LONG
+    while not holds() and time.monotonic() < until:
+        time.sleep(0.02)
+    return holds()
+
+
+def waits(process):
+    """Whether a process waits for a lock, as Linux lists them."""
+    return re.search(rf"-> FLOCK .* {process.pid} ", Path("/proc/locks").read_text(encoding="ascii"))
+
+
 def test_appenders(folder):
     """Who appends while another does waits; what both append is whole."""
     log, one = Path(folder, "both.log"), b"".join(reference.entry_on(FURNACE.read_bytes(), record) for record in records(QUESTIONS.read_bytes()))
@@ -302,7 +315,7 @@ def test_appenders(folder):
     with open(log, "wb") as held:
         fcntl.flock(held, fcntl.LOCK_EX)
         both = [subprocess.Popen(words, stdout=subprocess.DEVNULL, stderr=subprocess.PIPE, env=environment()) for _ in range(2)]
-        time.sleep(1.5)
+        soon(lambda: all(waits(each) or each.poll() is not None for each in both))
         expect("who appends waits", [each.poll() for each in both] == [None, None] and log.read_bytes() == b"", log.read_bytes())
     for each in both:
         _, err = each.communicate(timeout=LONG)
@@ -310,14 +323,6 @@ def test_appenders(folder):
     expect("each batch is whole", log.read_bytes() == one * 2, log.read_bytes().hex())
     read(log, 0, ["36 entries in"], ["--quiet"])
     print("tools: logs: two who append at once")
-
-
-def soon(holds):
-    """Whether it comes to hold."""
-    until = time.monotonic() + LONG
-    while not holds() and time.monotonic() < until:
-        time.sleep(0.02)
-    return holds()
 
 
 def test_meanwhile(folder):
