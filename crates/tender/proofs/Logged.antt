@@ -16,7 +16,7 @@ use Rattle.routelog.proofs.Logging.{refused, answer-logged}
 use Rattle.routelog.proofs.Searches.{Logs, searched-logs, logs-entry}
 use Rattle.routelog.proofs.Files.{log-written, log-back, same-bytes}
 use Rattle.routelog.proofs.Torn.{log-cut}
-use Rattle.routelog.proofs.Window.{window-reads}
+use Rattle.routelog.proofs.Window.{window-reads, piece-tells}
 use Rattle.routelog.proofs.RoundTrip as trip
 use Rattle.desk.specs.Use.{greatestUsedCells}
 use Rattle.desk.specs.Desk.{withWays, Asked, no-zeros, searched, wholeRecords, recordAt, IsAnswered}
@@ -58,5 +58,6 @@ route-log = record {
   one-list = same-bytes;
   torn = log-cut;
   window = window-reads;
+  piece = piece-tells;
   answers = answers-entered;
 }

@@ -1,6 +1,7 @@
 -- The route log, 02's R-1, over the promises of its functions and of the program: what is written is read back, what is read is written back, a torn file
 -- loses no whole entry, and every answer can be logged. What is refused is in FirstCondition.
 use mathlib.Core.Path.{_≡_}
+use mathlib.Core.Logic.{_≢_}
 use mathlib.Core.List.{List, _++_}
 use Prim.Native.Nat.{ℕ, _≤_, _<_}
 use lib.ListN.{length, take, drop}
@@ -17,7 +18,7 @@ use Rattle.routelog.specs.declared.EntryWritten.{EntryWritten}
 use Rattle.routelog.specs.declared.EntryWritten.the-variants.{Length}
 use Rattle.routelog.specs.declared.EntryWrittenNumbers.{EntryWrittenNumbers}
 use Rattle.logentries.specs.Entry.{Entry, entryOf, IsEntry}
-use Rattle.routelog.specs.Reading.{readingOf, greatestEntry, IsRead}
+use Rattle.routelog.specs.Reading.{refused, readingOf, greatestEntry, IsRead}
 use Rattle.routelog.specs.Writing.{IsWritten}
 use Rattle.routelog.specs.File.{fileBytes, logWith, logOf, AllEntries, wholeBefore, cutEnding}
 use Rattle.desk.specs.Use.{greatestUsedCells}
@@ -55,6 +56,8 @@ pub record RouteLog : Type 0 where
       → logOf (take n (fileBytes es)) room ≡ logWith (wholeBefore n es) (cutEnding n es)
   -- as many bytes of the rest of a file as the longest entry has, or all that are left, read as the rest does
   pub window : (rest : List ℕ) (room n : ℕ) → greatestEntry ≤ n → readingOf (take n rest) room ≡ readingOf rest room
+  -- and a piece of any length but 0 that is not refused as 61 reads as the file does
+  pub piece : (bytes more : List ℕ) (room : ℕ) → length bytes ≢ 0 → readingOf bytes room ≢ refused 61 0 → readingOf (bytes ++ more) room ≡ readingOf bytes room
   -- every record that the program answers can be logged with its question and its route
   pub answers : (f : Floor) (m bytes : List ℕ) (r : Rooms) (k : ℕ) (bytes′ : List ℕ) (r′ : Rooms) → IsAnswered f m bytes r k bytes′ r′ → cells f ≤ greatestUsedCells
       → (i : ℕ) → i < wholeRecords bytes → CanBeEntered f m r (recordAt i bytes) (recordAt i bytes′)
