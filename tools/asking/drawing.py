@@ -1,5 +1,5 @@
 """The picture as an SVG file. Each cell says its number, place, weight and cost when pointed at. Nothing hides a weight: digits lie on top."""
-from xml.sax.saxutils import escape
+from html import escape
 
 from asking.terminal import fault_name
 
@@ -146,11 +146,11 @@ class Drawing:
     def add_headline(self):
         for place, line in enumerate(self.headline):
             weight = "bold" if place == 0 else "normal"
-            self.add(f'<text x="{LEFT}" y="{TOP + LINE * place + 6}" font-size="14" font-weight="{weight}">{escape(line)}</text>')
+            self.add(f'<text x="{LEFT}" y="{TOP + LINE * place + 6}" font-size="14" font-weight="{weight}">{escape(line, quote=False)}</text>')
 
     def swatch(self, x, y, colour, words):
         self.add(f'<rect class="key" x="{x}" y="{y - 11}" width="14" height="14" fill="{colour}" stroke="#999" stroke-width=".5"/>')
-        self.add(f'<text x="{x + 20}" y="{y}" font-size="12">{escape(words)}</text>')
+        self.add(f'<text x="{x + 20}" y="{y}" font-size="12">{escape(words, quote=False)}</text>')
 
     def add_floor_key(self, y):
         weights = ([1] if self.view.has(1) else []) + self.view.weights()
@@ -200,7 +200,7 @@ class Drawing:
         self.add_weights()
         self.add_key()
         head = f'<svg xmlns="http://www.w3.org/2000/svg" width="{width}" height="{height}" viewBox="0 0 {width} {height}">'
-        title = f"<title>{escape(self.headline[0])}</title><style>{STYLE}</style>"
+        title = f"<title>{escape(self.headline[0], quote=False)}</title><style>{STYLE}</style>"
         paper = f'<rect class="paper" width="{width}" height="{height}" fill="#fff"/>'
         return "\n".join(['<?xml version="1.0" encoding="UTF-8"?>', head, title, paper, *self.parts, "</svg>", ""])
 
