@@ -55,6 +55,10 @@ def endings():
     for place, name in ((0, "map"), (3, "route")):
         length = second[32 + 8 * place]
         yield f"more given than the room for {name} has", [first, with_number(9 + 2 * place, length + 1), first], due
+    for what in (wire.READ_ENTRY, wire.WRITE_ENTRY):
+        for length in (0, 31):
+            made.call(what, "no room for two records", lambda **_: [0, 0], map=(length, wire.OLD_BYTE))
+            yield f"a map room of {length} for {wire.ENTRIES[what]}", [first, made.made[-1][1], first], due
     for length in (1, 71, 72, 77, 78, len(second) - 1):
         yield f"an input that ends after {length} bytes of a call", [first, second[:length]], due
 
