@@ -1,8 +1,10 @@
-//! Calls of the program `calls` (crates/calls/src/main.rt has the form), and the replies that 01 asks for.
+//! Calls of the program `calls` (crates/calls/src/main.rt has the form), and the replies that 01 and R-1 ask for.
 
 use crate::claims::{check_route, check_table, RouteVerdict, TableVerdict};
 use crate::floor::{Floor, Refusal, MARK};
+use crate::log::{read_entry, write_entry, Entry};
 use crate::maptext::{read_map, write_map};
+use crate::program::RECORD;
 use crate::search::{search, Answer, Rooms};
 
 /// What a room that a call fills held before, so that what was left untouched shows.
@@ -20,6 +22,8 @@ pub enum What {
     TableClaim,
     ReadMap,
     WriteMap,
+    ReadEntry,
+    WriteEntry,
 }
 
 /// One call. A part that `what` has no use for is empty or 0.
@@ -33,13 +37,15 @@ pub struct Call {
     pub goal: u32,
     /// the limit of a search, the cost of a route claim
     pub limit: u32,
+    /// also question and answer for the log's writer
     pub map: Vec<u8>,
     pub route: Vec<u8>,
     pub table: Vec<u32>,
+    /// also the rest of a log
     pub text: Vec<u8>,
     pub costs_room: usize,
     pub work_room: usize,
-    /// the route room of a search, the cell room of the reader, the text room of the writer
+    /// the route room of a search and of the log's reader, the cell room of the map's reader, the text room of the writers
     pub byte_room: usize,
 }
 
@@ -93,6 +99,15 @@ impl Call {
                 rooms.text = self.text.clone();
             }
             What::WriteMap => rooms.text = vec![OLD_BYTE; self.byte_room],
+            What::ReadEntry => {
+                rooms.map = vec![OLD_BYTE; 2 * RECORD];
+                rooms.route = vec![OLD_BYTE; self.byte_room];
+                rooms.text = self.text.clone();
+            }
+            What::WriteEntry => {
+                rooms.route = self.route.clone();
+                rooms.text = vec![OLD_BYTE; self.byte_room];
+            }
         }
         rooms
     }
@@ -105,6 +120,8 @@ impl Call {
             What::TableClaim => 3,
             What::ReadMap => 4,
             What::WriteMap => 5,
+            What::ReadEntry => 12,
+            What::WriteEntry => 13,
         };
         let rooms = self.before();
         let given = FiveRooms {
@@ -153,7 +170,7 @@ impl Call {
         (numbers_of(six), rooms)
     }
 
-    /// The reply that 01 asks for.
+    /// The reply that is due.
     pub fn expected(&self) -> Vec<u8> {
         let mut rooms = self.before();
         let six = match self.what {
@@ -162,6 +179,8 @@ impl Call {
             What::TableClaim => self.expected_table_verdict(),
             What::ReadMap => self.expected_reading(&mut rooms),
             What::WriteMap => self.expected_writing(&mut rooms),
+            What::ReadEntry => self.expected_read_entry(&mut rooms),
+            What::WriteEntry => self.expected_written_entry(&mut rooms),
         };
         let mut reply = numbers(&six.map(|value| value as u32));
         reply.extend(rooms.bytes());
@@ -232,6 +251,37 @@ impl Call {
             Ok(text) => {
                 lent.text[..text.len()].copy_from_slice(&text);
                 [1, 0, 0, text.len() as u64, 0, 0]
+            }
+        }
+    }
+
+    /// Question and answer are put into the map room, zeros if there is no entry.
+    fn expected_read_entry(&self, lent: &mut FiveRooms) -> [u64; 6] {
+        lent.map = vec![0; 2 * RECORD];
+        match read_entry(&self.text, self.byte_room) {
+            Err(refused) => refused_with(refused),
+            Ok(None) => [2, 0, 0, 0, 0, 0],
+            Ok(Some(entry)) => {
+                lent.map = [&entry.question[..], &entry.answer].concat();
+                lent.route[..entry.route.len()].copy_from_slice(&entry.route);
+                let taken = entry.bytes().len() as u64;
+                [1, 0, 0, entry.route.len() as u64, taken, 0]
+            }
+        }
+    }
+
+    fn expected_written_entry(&self, lent: &mut FiveRooms) -> [u64; 6] {
+        let (question, answer) = self.map.split_at(RECORD);
+        let entry = Entry {
+            question: question.to_vec(),
+            answer: answer.to_vec(),
+            route: self.route.clone(),
+        };
+        match write_entry(&entry, self.byte_room) {
+            Err(refused) => refused_with(refused),
+            Ok(bytes) => {
+                lent.text[..bytes.len()].copy_from_slice(&bytes);
+                [1, 0, 0, bytes.len() as u64, 0, 0]
             }
         }
     }

@@ -1,8 +1,11 @@
-//! The floors to try of 01, with the answers that 01 gives: the plain planner is held against these before it is compared with anything.
+//! The floors to try of 01, with the answers that 01 gives, and one of them as an entry of R-1's log: the plain planner is held against these
+//! before it is compared with anything.
 
 use crate::calls::{Call, What};
 use crate::claims::{check_route, check_table, RouteVerdict, TableVerdict};
 use crate::floor::{Refusal, MARK};
+use crate::log::{read_entry, write_entry, Entry};
+use crate::logs::{reading, writing};
 use crate::search::{search, Answer, Rooms};
 
 struct Case {
@@ -97,6 +100,7 @@ pub fn tried() -> Vec<Call> {
     }
     calls.extend(refused_or_taken());
     calls.extend(claimed());
+    calls.extend(logged());
     calls
 }
 
@@ -142,4 +146,18 @@ fn claimed() -> Vec<Call> {
     let verdict = check_table(table.floor(), &table.map, 0, &table.table);
     assert_eq!(verdict, TableVerdict::Breaks(2));
     vec![route, table]
+}
+
+/// 01's question record and answer record of case a, with the route: the last record is "filled up with 255".
+fn logged() -> Vec<Call> {
+    let entry = Entry {
+        question: vec![0, 0, 0, 0, 2, 0, 0, 0, 5, 0, 0, 0, 8, 0, 0, 0],
+        answer: vec![1, 0, 0, 0, 5, 0, 0, 0, 24, 1, 0, 0, 4, 0, 0, 0],
+        route: vec![4, 2, 2, 0],
+    };
+    let mut bytes = [&entry.question[..], &entry.answer, &entry.route].concat();
+    bytes.extend([255; 12]);
+    assert_eq!(write_entry(&entry, 48), Ok(bytes.clone()));
+    assert_eq!(read_entry(&bytes, 4), Ok(Some(entry.clone())));
+    vec![writing(&entry, 48), reading(&bytes, 4), reading(&[], 4)]
 }

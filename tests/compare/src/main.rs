@@ -1,11 +1,11 @@
-//! Compares the proved programs with an independent planner, written from 01 alone, on random inputs.
+//! Compares the proved programs with an independent planner, written from 01 and 02's R-1 alone, on random inputs.
 //!
 //!     compare SEED COUNT FOLDER CALLS PLANNER [START..]
 //!
 //! COUNT rounds are run, each with its own random numbers. FOLDER is for `floor.map`; CALLS and PLANNER are the programs, and START the words
 //! before them that start a program on this machine. A difference is printed with its input, and the status is 1.
 //!
-//! `floor`, `search`, `claims`, `maptext` and `program` are the independent planner: to be read beside 01, sentence by sentence.
+//! `floor`, `search`, `claims`, `maptext`, `program` and `log` are the independent planner: to be read beside 01 and R-1, sentence by sentence.
 
 mod calls;
 mod cases;
@@ -13,6 +13,8 @@ mod claims;
 mod floor;
 mod floors;
 mod generate;
+mod log;
+mod logs;
 mod maptext;
 mod pipes;
 mod planner;
@@ -30,6 +32,7 @@ use std::process::ExitCode;
 use calls::{Call, What};
 use floors::{any_floor, Drawn};
 use generate::Scene;
+use log::{read_entry, write_entry, Entry};
 use pipes::Calls;
 use planner::Planner;
 use random::Random;
@@ -48,6 +51,9 @@ pub struct Counts {
     table_claims: u64,
     map_texts: u64,
     records: u64,
+    /// files read entry by entry, and entries given to the writer
+    log_files: u64,
+    log_entries: u64,
     /// how often each word or number was the answer
     met: BTreeMap<String, u64>,
 }
@@ -62,8 +68,13 @@ impl fmt::Display for Counts {
     fn fmt(&self, out: &mut fmt::Formatter) -> fmt::Result {
         write!(
             out,
-            "{} searches, {} route claims, {} table claims, {} map texts, {} question records",
+            "{} searches, {} route claims, {} table claims, {} map texts, {} question records, ",
             self.searches, self.route_claims, self.table_claims, self.map_texts, self.records
+        )?;
+        write!(
+            out,
+            "{} log files, {} log entries",
+            self.log_files, self.log_entries
         )
     }
 }
@@ -75,6 +86,8 @@ struct Comparison {
     calls: Calls,
     planner: Planner,
     counts: Counts,
+    /// the searches of the round, as entries of the route log
+    searched: Vec<Entry>,
 }
 
 impl Comparison {
@@ -84,9 +97,16 @@ impl Comparison {
             What::RouteClaim => self.counts.route_claims += 1,
             What::TableClaim => self.counts.table_claims += 1,
             What::ReadMap | What::WriteMap => self.counts.map_texts += 1,
+            // a file is counted, however many entries are read from it
+            What::ReadEntry => (),
+            What::WriteEntry => self.counts.log_entries += 1,
         }
         let expected = call.expected();
         self.counts.meet(report::outcome(call, &expected));
+        if call.what == What::Search {
+            let (six, rooms) = call.parts(&expected);
+            self.searched.push(logs::searched(call, &six, &rooms.route));
+        }
         if self.calls.ask(call) == expected {
             return Ok(());
         }
@@ -98,9 +118,19 @@ impl Comparison {
     }
 
     fn round(&mut self, random: &mut Random, round: u64) -> Result<(), Differs> {
+        self.searched.clear();
         if round % LARGE == LARGE - 1 {
-            return self.large_round(random);
+            self.large_round(random)?;
+        } else {
+            self.small_round(random)?;
+            if round % PLANNER == 0 {
+                self.planner.compare(random, &mut self.counts)?;
+            }
         }
+        self.compare_logs(random)
+    }
+
+    fn small_round(&mut self, random: &mut Random) -> Result<(), Differs> {
         let drawn = generate::small_floor(random);
         for _ in 0..3 {
             let scene = Scene::of(random, &drawn);
@@ -115,11 +145,7 @@ impl Comparison {
                 self.compare_table(random, &scene)?;
             }
         }
-        self.compare_texts(random, &drawn)?;
-        if round % PLANNER == 0 {
-            self.planner.compare(random, &mut self.counts)?;
-        }
-        Ok(())
+        self.compare_texts(random, &drawn)
     }
 
     /// On a floor of up to 256 × 256 cells the plain planner takes its time: fewer questions.
@@ -171,6 +197,52 @@ impl Comparison {
         self.compare(&generate::writing(random, drawn))
     }
 
+    /// Some of the round's searches, logged and read back; then entries and files of any kind. What is read is written back.
+    fn compare_logs(&mut self, random: &mut Random) -> Result<(), Differs> {
+        let mut logged = Vec::new();
+        for _ in 0..random.between(1, 3) {
+            let entry = random.one_of(&self.searched);
+            self.compare(&logs::writing(&entry, entry.bytes().len()))?;
+            // a route of more than 4,095 steps is refused
+            if write_entry(&entry, entry.bytes().len()).is_ok() {
+                logged.push(entry);
+            }
+        }
+        let file: Vec<u8> = logged.iter().flat_map(Entry::bytes).collect();
+        let read = self.compare_file(random, &file)?;
+        assert_eq!(read, logged, "what is logged reads back");
+        for _ in 0..3 {
+            self.compare(&logs::wild_writing(random))?;
+            let file = logs::any_file(random);
+            for entry in self.compare_file(random, &file)? {
+                self.compare(&logs::writing(&entry, entry.bytes().len()))?;
+            }
+        }
+        Ok(())
+    }
+
+    /// Reads a file entry by entry until its rest is empty or is refused, and gives the entries. Where a room is too short, a longer one follows.
+    fn compare_file(&mut self, random: &mut Random, file: &[u8]) -> Result<Vec<Entry>, Differs> {
+        self.counts.log_files += 1;
+        let mut entries = Vec::new();
+        let mut rest = file;
+        loop {
+            let room = logs::any_room(random, rest);
+            self.compare(&logs::reading(rest, room))?;
+            let whole = read_entry(rest, logs::EVERY_ROUTE);
+            if read_entry(rest, room) != whole {
+                self.compare(&logs::reading(rest, logs::EVERY_ROUTE))?;
+            }
+            match whole {
+                Ok(Some(entry)) => {
+                    rest = &rest[entry.bytes().len()..];
+                    entries.push(entry);
+                }
+                _ => return Ok(entries),
+            }
+        }
+    }
+
     fn all(&mut self, seed: u64, count: u64) -> Result<(), Differs> {
         for call in cases::tried() {
             self.compare(&call)?;
@@ -208,6 +280,7 @@ fn main() -> ExitCode {
             folder: PathBuf::from(&words[2]),
         },
         counts: Counts::default(),
+        searched: Vec::new(),
     };
     let compared = comparison.all(seed, count);
     let met: Vec<String> = comparison

@@ -10,7 +10,7 @@ use crate::maptext::{read_map, text_of, Map};
 use crate::pipes::{run_planner, Sending, RECORD};
 use crate::program::output;
 use crate::random::Random;
-use crate::report::{print_map, quoted, shrunk};
+use crate::report::{hex, print_map, quoted, shrunk};
 use crate::texts::{edge_text, good_text, torn_text};
 use crate::{Counts, Differs};
 
@@ -192,16 +192,6 @@ fn question_of(call: &Call, record: &[u8]) -> Vec<u8> {
     let mut smaller = crate::calls::numbers(&[call.start, call.goal, call.limit]);
     smaller.extend(&record[12..]);
     smaller
-}
-
-/// The bytes, of many only the first.
-fn hex(bytes: &[u8]) -> String {
-    let words: Vec<String> = bytes
-        .iter()
-        .take(1024)
-        .map(|byte| format!("{:02x}", byte))
-        .collect();
-    words.join(" ")
 }
 
 fn some_file(random: &mut Random, drawn: &Drawn) -> MapFile {

@@ -4,7 +4,7 @@ use crate::floor::{Floor, Refusal};
 use crate::maptext::{read_map, Map};
 use crate::search::{search, Answer, Rooms};
 
-const RECORD: usize = 16;
+pub const RECORD: usize = 16;
 
 /// The whole output. `text` is nothing if `floor.map` can't be opened.
 pub fn output(text: Option<&[u8]>, input: &[u8]) -> Vec<u8> {
@@ -45,7 +45,7 @@ fn answers(map: &Map, input: &[u8]) -> Vec<u8> {
     output
 }
 
-fn number(bytes: &[u8]) -> u64 {
+pub fn number(bytes: &[u8]) -> u64 {
     u32::from_le_bytes([bytes[0], bytes[1], bytes[2], bytes[3]]) as u64
 }
 
@@ -77,7 +77,7 @@ fn answer(map: &Map, question: &[u8]) -> Answer {
 }
 
 /// "Answer: kind (1 byte), refusal number (1), two zeros, settled, number returned, route length (4 each; all three 0 if refused)."
-fn record_of(answer: &Answer) -> Vec<u8> {
+pub fn record_of(answer: &Answer) -> Vec<u8> {
     let (kind, refusal, three) = match answer {
         Answer::Refused(refused) => (0, refused.number as u8, [0, 0, 0]),
         Answer::Found {

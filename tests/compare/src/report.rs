@@ -27,10 +27,12 @@ pub fn shrunk(call: &Call, differs: &mut dyn FnMut(&Call) -> bool) -> Call {
 }
 
 fn smaller_calls(call: &Call) -> Vec<Call> {
-    let mut calls = Vec::new();
-    if call.what == What::ReadMap {
-        return shorter_texts(call);
+    match call.what {
+        What::ReadMap | What::ReadEntry => return shorter_texts(call),
+        What::WriteEntry => return plainer_entries(call),
+        _ => (),
     }
+    let mut calls = Vec::new();
     if call.map.len() as u64 == call.floor().cells() {
         for y in 0..call.height {
             calls.extend(without(call, |_, row| row == y, 0, 1));
@@ -39,11 +41,7 @@ fn smaller_calls(call: &Call) -> Vec<Call> {
             calls.extend(without(call, |column, _| column == x, 1, 0));
         }
     }
-    for place in 0..call.route.len() {
-        let mut shorter = call.clone();
-        shorter.route.remove(place);
-        calls.push(shorter);
-    }
+    calls.extend(shorter_routes(call));
     if call.what == What::Search {
         calls.extend(just_enough(call));
         for limit in [call.limit / 2, call.limit.saturating_sub(1)] {
@@ -121,6 +119,30 @@ fn plainer_maps(call: &Call) -> Vec<Call> {
     calls
 }
 
+fn shorter_routes(call: &Call) -> Vec<Call> {
+    let mut calls = Vec::new();
+    for place in 0..call.route.len() {
+        let mut shorter = call.clone();
+        shorter.route.remove(place);
+        calls.push(shorter);
+    }
+    calls
+}
+
+/// Entries for the log with a direction less, or with one byte of question or answer made 0; then those with a shorter room.
+fn plainer_entries(call: &Call) -> Vec<Call> {
+    let mut calls = shorter_routes(call);
+    for place in 0..call.map.len() {
+        if call.map[place] != 0 {
+            let mut plainer = call.clone();
+            plainer.map[place] = 0;
+            calls.push(plainer);
+        }
+    }
+    calls.extend(shorter_rooms(call));
+    calls
+}
+
 /// Texts with a stretch cut out, the longer stretches first.
 fn shorter_texts(call: &Call) -> Vec<Call> {
     let mut calls = Vec::new();
@@ -135,6 +157,12 @@ fn shorter_texts(call: &Call) -> Vec<Call> {
         }
         stretch /= 2;
     }
+    calls.extend(shorter_rooms(call));
+    calls
+}
+
+fn shorter_rooms(call: &Call) -> Vec<Call> {
+    let mut calls = Vec::new();
     for room in [call.byte_room / 2, call.byte_room.saturating_sub(1)] {
         if room < call.byte_room {
             let mut shorter = call.clone();
@@ -148,24 +176,7 @@ fn shorter_texts(call: &Call) -> Vec<Call> {
 /// The input and both answers, to paste.
 pub fn print_difference(call: &Call, expected: &[u8], got: &[u8]) {
     println!("what: {:?}", call.what);
-    if call.what == What::ReadMap {
-        println!(
-            "cell room {}, text of {} bytes:",
-            call.byte_room,
-            call.text.len()
-        );
-        println!("{}", quoted(&call.text));
-    } else {
-        println!(
-            "width {}, height {}, ways {}, start {}, goal {}, limit or cost {}",
-            call.width, call.height, call.ways, call.start, call.goal, call.limit
-        );
-        println!(
-            "costs room {}, work room {}, route or text room {}",
-            call.costs_room, call.work_room, call.byte_room
-        );
-        print_map(call.width, &call.map);
-    }
+    print_input(call);
     if call.what == What::RouteClaim {
         println!("route: {:?}", call.route);
     }
@@ -174,6 +185,38 @@ pub fn print_difference(call: &Call, expected: &[u8], got: &[u8]) {
     }
     println!("independent: {}", reply_words(call, expected));
     println!("the program: {}", reply_words(call, got));
+}
+
+fn print_input(call: &Call) {
+    let (room, length) = (call.byte_room, call.text.len());
+    match call.what {
+        What::ReadMap => {
+            println!("cell room {}, text of {} bytes:", room, length);
+            println!("{}", quoted(&call.text));
+        }
+        What::ReadEntry => {
+            println!("route room {}, rest of {} bytes:", room, length);
+            println!("    {}", hex(&call.text));
+        }
+        What::WriteEntry => {
+            println!("text room {}, {} directions", room, call.route.len());
+            println!("    question and answer {}", hex(&call.map));
+            println!("    directions {}", hex(&call.route));
+        }
+        _ => print_floor(call),
+    }
+}
+
+fn print_floor(call: &Call) {
+    println!(
+        "width {}, height {}, ways {}, start {}, goal {}, limit or cost {}",
+        call.width, call.height, call.ways, call.start, call.goal, call.limit
+    );
+    println!(
+        "costs room {}, work room {}, route or text room {}",
+        call.costs_room, call.work_room, call.byte_room
+    );
+    print_map(call.width, &call.map);
 }
 
 pub fn print_map(width: u32, map: &[u8]) {
@@ -202,6 +245,16 @@ pub fn quoted(text: &[u8]) -> String {
     format!("    \"{}\" ... \"{}\"", escaped(front), escaped(back))
 }
 
+/// The bytes, of many only the first.
+pub fn hex(bytes: &[u8]) -> String {
+    let words: Vec<String> = bytes
+        .iter()
+        .take(1024)
+        .map(|byte| format!("{:02x}", byte))
+        .collect();
+    words.join(" ")
+}
+
 /// The kind of answer that a reply has, in a word and its number.
 pub fn outcome(call: &Call, reply: &[u8]) -> String {
     let head = numbers_of(&reply[..8]);
@@ -211,6 +264,8 @@ pub fn outcome(call: &Call, reply: &[u8]) -> String {
         What::TableClaim => ("table", &["refused", "right", "breaks"]),
         What::ReadMap => ("reader", &["refused", "read"]),
         What::WriteMap => ("writer", &["refused", "written"]),
+        What::ReadEntry => ("log reader", &["refused", "entry", "empty"]),
+        What::WriteEntry => ("log writer", &["refused", "written"]),
     };
     match head[1] {
         0 => format!("{} {}", part, words[head[0] as usize]),
@@ -232,7 +287,8 @@ fn reply_words(call: &Call, reply: &[u8]) -> String {
         What::RouteClaim => "kind, refusal or fault, place, cost",
         What::TableClaim => "kind, refusal, place or cell",
         What::ReadMap => "kind, refusal, place, width, height, ways",
-        What::WriteMap => "kind, refusal, place, length",
+        What::WriteMap | What::WriteEntry => "kind, refusal, place, length",
+        What::ReadEntry => "kind, refusal, place, route length, bytes taken",
     };
     let mut words = format!("{} {:?}", named, six);
     for (name, room) in [
