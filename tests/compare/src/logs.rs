@@ -77,17 +77,17 @@ pub fn any_entry(random: &mut Random) -> Entry {
         let place = random.below(16) as usize;
         answer[place] = any_byte(random);
     }
-    // a length that no answer may have is not made into a route
+    // a length far beyond what an answer may have is not made into a route
     let count = if length <= 5000 { length } else { 3 };
     Entry {
-        question: random_question(random),
+        question: any_question(random),
         answer,
         route: (0..count).map(|_| random.below(8) as u8).collect(),
     }
 }
 
 /// "A question may be any 16 bytes."
-fn random_question(random: &mut Random) -> Vec<u8> {
+fn any_question(random: &mut Random) -> Vec<u8> {
     match random.below(4) {
         0 => vec![255; 16],
         _ => any_bytes(random, 16),
