@@ -1,4 +1,5 @@
-"""Nothing ends in a traceback: full disks, closed outputs, odd names, little memory, Ctrl-C, programs that fail or disagree."""
+"""Nothing ends in a traceback: full disks, closed outputs, odd names, little memory, Ctrl-C, programs that fail or disagree; and rt beside another rt."""
+import fcntl
 import os
 import random
 import shutil
@@ -172,3 +173,17 @@ def test_programs(folder):
     ended, out, err = run(ROW, env=killed)
     expect("a program that is killed", ended == 2 and "the program planner ended with status 137" in err and "Traceback" not in err, out + err)
     print("tools: programs: no such program, no kit, one that fails, is killed, is silent, or disagrees")
+
+
+def test_two_at_once(_):
+    """rt started while another runs in this checkout: it waits, says so, and then does its work."""
+    crates = os.open(ROOT / "crates", os.O_RDONLY)
+    fcntl.flock(crates, fcntl.LOCK_EX)
+    with subprocess.Popen([ROOT / "tools" / "prove", "version"], stdout=subprocess.PIPE, stderr=subprocess.PIPE) as second:
+        said = second.stderr.readline()
+        time.sleep(0.5)  # far longer than it takes alone
+        expect("rt beside another", said == b"prove: waiting for another rt in this checkout\n" and second.poll() is None, said)
+        os.close(crates)
+        out, err = second.communicate(timeout=LONG)
+    expect("rt after another", second.returncode == 0 and out.startswith(b"rattle-kit") and not err, out + err)
+    print("tools: rt waits for another rt in the same checkout")
