@@ -20,10 +20,10 @@ use Rattle.maptext.specs.Reading.{readFor}
 use Rattle.search.specs.declared.Answer.{Answer}
 use Rattle.search.specs.Search.{Rooms, roomLines, searchLines, answered, rowOf, refused, passed, numbersOf}
 use Rattle.recordlayout.specs.Record.{questionIn, waysIn}
-use Rattle.desk.specs.Use.{greatestUsedCells, usedOf}
+use Rattle.mapuse.specs.Use.{greatestUsedCells, usedOf}
+use Rattle.mapuse.proofs.Using.{can-use}
 use Rattle.desk.specs.Desk.{withWays, Asked, no-zeros, searched}
 use Rattle.desk.specs.Room.{EnoughRoom}
-use Rattle.desk.proofs.Using.{can-use}
 use Rattle.desk.proofs.Fitting.{NumberBelow, screen-below}
 
 module _ (text : List ℕ) (room : ℕ) (f : Floor) (used : reading.numbersOf (Map f) ≡ readFor (usedOf text room)) (r : Rooms) (enough : EnoughRoom r) where

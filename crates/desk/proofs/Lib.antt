@@ -1,4 +1,3 @@
-pub mod Using
 pub mod Asking
 pub mod Fitting
 pub mod Enough

@@ -5,19 +5,12 @@ use Prim.Native.Nat.{ℕ, zero, suc}
 use native.Mathlib.Omega.{arith}
 use lib.ListN.{take, drop, take-append-drop}
 use Rattle.floor.specs.declared.Floor.{Floor}
-use Rattle.maptext.specs.declared.Read.{Read}
-use Rattle.maptext.proofs.Texts.{readOf, read-back}
 use Rattle.search.specs.declared.Answer.{Answer}
 use Rattle.search.specs.Search.{Rooms}
 use Rattle.search.proofs.Promise.{one-search}
 use Rattle.recordlayout.specs.Record.{recordSize, questionIn}
-use Rattle.desk.specs.Use.{IsUsed}
 use Rattle.desk.specs.Turn.{ArrivedAnswered, IsKept}
 use Rattle.desk.specs.Desk.{Asked, no-zeros, searched, Answered, wholeRecords, IsAnswered}
-
--- a second result and room that meet the promise of `use_map` are equal
-pub one-use : (text room : List ℕ) {r s : Read} {room₁ room₂ : List ℕ} → IsUsed text room r room₁ → IsUsed text room s room₂ → (r ≡ s) × (room₁ ≡ room₂)
-one-use text room {r} {s} x y = (sym (read-back r) ∙ ap readOf (x .answers ∙ sym (y .answers)) ∙ read-back s, x .leaves ∙ sym (y .leaves))
 
 one-asked : (f : Floor) (m q : List ℕ) (r : Rooms) {a b : Answer} {r₁ r₂ : Rooms} → Asked f m q r a r₁ → Asked f m q r b r₂ → (a ≡ b) × (r₁ ≡ r₂)
 one-asked f m q r (no-zeros z e l) (no-zeros z′ e′ l′) = (e ∙ sym e′, l ∙ sym l′)
@@ -34,7 +27,7 @@ one-answered f m (suc n) bytes r {r₁ = r₁} x y =
     let all = one-answered f m n (drop recordSize bytes) (y .between) others (y .others) in
     (x .leaves ∙ rw (first .0, all .0) (sym (y .leaves)), all .1)
 
--- and so for `answer_records`
+-- a second result, buffer and rooms that meet the promise of `answer_records` are equal
 pub one-answering : (f : Floor) (m bytes : List ℕ) (r : Rooms) {n k : ℕ} {out₁ out₂ : List ℕ} {r₁ r₂ : Rooms}
     → IsAnswered f m bytes r n out₁ r₁ → IsAnswered f m bytes r k out₂ r₂ → (n ≡ k) × (out₁ ≡ out₂) × (r₁ ≡ r₂)
 one-answering f m bytes r x y =

@@ -1,4 +1,3 @@
-pub mod Use
 pub mod Desk
 pub mod Turn
 pub mod Room

@@ -2,7 +2,7 @@
 use Prim.Native.Nat.{ℕ, _*_, _≤_}
 use lib.ListN.{length}
 use Rattle.search.specs.Search.{Rooms}
-use Rattle.desk.specs.Use.{greatestUsedCells}
+use Rattle.mapuse.specs.Use.{greatestUsedCells}
 
 pub record EnoughRoom (r : Rooms) : Type 0 where
   pub costs : greatestUsedCells ≤ length (r .costs)

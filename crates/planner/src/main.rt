@@ -1,4 +1,4 @@
-// The program: 01, "The program". It reads `floor.map`, then answers question records from standard input. All that it says is decided in `desk`.
+// The program: 01, "The program". It reads `floor.map`, then answers question records from standard input. All that it says is decided in `mapuse` and `desk`.
 // A read or a write that fails ends it, with one line on standard error.
 ghost use mathlib.Core.Path.{_≡_};
 ghost use mathlib.Core.Bool.{false};
@@ -8,22 +8,22 @@ ghost use lib.ListN.{length, take};
 ghost use Rattle.search.specs.Search.{rooms};
 ghost use Rattle.recordlayout.specs.Record.{recordSize};
 ghost use Rattle.streams.specs.Streams.{TextIn};
-ghost use Rattle.desk.specs.Use.{greatestText, greatestUsedCells};
+ghost use Rattle.mapuse.specs.Use.{greatestText, greatestUsedCells};
 ghost use Rattle.desk.specs.Room.{EnoughRoom};
 ghost use Rattle.planner.specs.Gone.{counted, Gone};
 ghost use Rattle.planner.specs.SoFar.{TurnTaken, SomeTurn, AllSoFar};
 
 mod telling; // telling.rt: what the program says beside its answers
 
-use desk::GREATEST_TEXT;
-use desk::GREATEST_USED_CELLS;
 use desk::answer_arrived;
 use desk::keep_tail;
-use desk::use_map;
 use floor::Floor;
 use libc::STDIN_FILENO;
 use libc::STDOUT_FILENO;
 use maptext::Read;
+use mapuse::GREATEST_TEXT;
+use mapuse::GREATEST_USED_CELLS;
+use mapuse::use_map;
 use streams::Piece;
 use streams::Text;
 use streams::read_piece;

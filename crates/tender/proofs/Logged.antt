@@ -18,7 +18,7 @@ use Rattle.routelog.proofs.Files.{log-written, log-back, same-bytes}
 use Rattle.routelog.proofs.Torn.{log-cut}
 use Rattle.routelog.proofs.Window.{window-reads, piece-tells}
 use Rattle.routelog.proofs.RoundTrip as trip
-use Rattle.desk.specs.Use.{greatestUsedCells}
+use Rattle.mapuse.specs.Use.{greatestUsedCells}
 use Rattle.desk.specs.Desk.{withWays, Asked, no-zeros, searched, wholeRecords, recordAt, IsAnswered}
 use Rattle.tender.specs.RouteLog.{CanBeEntered, RouteLog}
 use Rattle.tender.proofs.Records.{answered-each}

@@ -30,7 +30,7 @@ use Rattle.search.specs.declared.Answer.{Answer}
 use Rattle.search.specs.Search.{Rooms, searchLines, numbersOf}
 use Rattle.search.proofs.Promise.{by-table}
 use Rattle.recordlayout.specs.Record.{questionIn, waysIn, endsInZeros, recordOf}
-use Rattle.desk.specs.Use.{greatestText, greatestUsedSide, withinSides, usedOf, IsUsed}
+use Rattle.mapuse.specs.Use.{greatestText, greatestUsedSide, withinSides, usedOf, IsUsed}
 use Rattle.desk.specs.Desk.{withWays, Asked, no-zeros, searched, wholeRecords}
 use Rattle.tender.specs.SearchTable.{SameLengths}
 use Rattle.tender.specs.SecondCondition.{RecordHolds, SecondCondition}

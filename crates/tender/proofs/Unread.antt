@@ -15,7 +15,7 @@ use Rattle.maptext.specs.Reading.{Reading, refused, read, readingOf, numbersOf,
 use Rattle.maptext.specs.Faults.{IsFirstFault}
 use Rattle.maptext.proofs.Texts.{readOf, read-back}
 use Rattle.maptext.proofs.Refusals.{refused-exactly}
-use Rattle.desk.specs.Use.{greatestText, greatestUsedSide, withinSides, usedOf, IsUsed}
+use Rattle.mapuse.specs.Use.{greatestText, greatestUsedSide, withinSides, usedOf, IsUsed}
 use Rattle.tender.specs.FirstCondition.{Refuses, IsUnusable, too-long, unread, too-great}
 
 -- an answer of the reader is a refusal exactly when the reading is

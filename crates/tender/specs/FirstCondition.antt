@@ -41,7 +41,7 @@ use Rattle.routelog.specs.Reading as log-read
 use Rattle.routelog.specs.Writing as log-written
 use Rattle.routelog.specs.Calls as log-calls
 use Rattle.routelog.specs.Refusals.{ReaderRefuses, WriterRefuses}
-use Rattle.desk.specs.Use.{greatestText, greatestUsedSide, IsUsed}
+use Rattle.mapuse.specs.Use.{greatestText, greatestUsedSide, IsUsed}
 use Rattle.recordlayout.specs.Record.{questionIn, waysIn, endsInZeros, recordOf}
 use Rattle.desk.specs.Desk.{withWays, Asked, wholeRecords, recordAt, IsAnswered}
 

@@ -21,7 +21,7 @@ use Rattle.logentries.specs.Entry.{Entry, entryOf, IsEntry}
 use Rattle.routelog.specs.Reading.{refused, readingOf, greatestEntry, IsRead}
 use Rattle.routelog.specs.Writing.{IsWritten}
 use Rattle.routelog.specs.File.{fileBytes, logWith, logOf, AllEntries, wholeBefore, cutEnding}
-use Rattle.desk.specs.Use.{greatestUsedCells}
+use Rattle.mapuse.specs.Use.{greatestUsedCells}
 use Rattle.desk.specs.Desk.{Asked, wholeRecords, recordAt, IsAnswered}
 use Rattle.tender.specs.SearchTable.{SameLengths}
 

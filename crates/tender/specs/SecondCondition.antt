@@ -35,7 +35,7 @@ use Rattle.search.specs.declared.Answer.{Answer}
 use Rattle.search.specs.declared.AnswerNumbers.{AnswerNumbers}
 use Rattle.search.specs.Search.{Question, Rooms, searchLines, Searched, numbersOf, Called}
 use Rattle.recordlayout.specs.Record.{questionIn, waysIn, endsInZeros, recordFor}
-use Rattle.desk.specs.Use.{IsUsed}
+use Rattle.mapuse.specs.Use.{IsUsed}
 use Rattle.desk.specs.Desk.{withWays, wholeRecords, recordAt, IsAnswered}
 use Rattle.tender.specs.SearchTable.{SameLengths, TableHolds}
 

@@ -4,7 +4,7 @@ use Prim.Native.Nat.{_*_, _≤_}
 use native.Mathlib.Omega.{arith}
 use borrow.Author.Needs.{needs}
 use lib.ListN.{length}
-use Rattle.desk.proofs.Using.{used-fits}
+use Rattle.mapuse.proofs.Using.{used-fits}
 use Rattle.planner.proofs.use_text.Statement.{statement}
 use Rattle.planner.proofs.use_text.Tie as tie
 

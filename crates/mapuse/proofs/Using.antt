@@ -13,7 +13,7 @@ use Rattle.maptext.specs.declared.Read.{Read}
 use Rattle.maptext.specs.declared.Read.the-variants.{Map}
 use Rattle.maptext.specs.Reading.{Reading, refused, read, readingOf, numbersOf, readFor, cellsLeft, IsRead}
 use Rattle.maptext.proofs.Storing.{HasMap, has-map, cells-fit}
-use Rattle.desk.specs.Use.{greatestText, greatestUsedSide, withinSides, usedOf, IsUsed}
+use Rattle.mapuse.specs.Use.{greatestText, greatestUsedSide, withinSides, usedOf, IsUsed}
 
 neither : (a b : Bool) → (a || b) ≡ false → (a ≡ false) × (b ≡ false)
 neither false b e = (refl, e)

@@ -4,10 +4,10 @@ use native.Mathlib.Omega.{arith}
 use borrow.Author.Needs.{needs}
 use lib.ListN.{length}
 use Rattle.maptext.proofs.Storing.{HasMap, has-map}
-use Rattle.desk.specs.Use.{greatestText}
-use Rattle.desk.proofs.Using.{too-long, reader-refuses, too-wide, too-high, can-be-used}
-use Rattle.desk.proofs.maps.use_map.Statement.{statement}
-use Rattle.desk.proofs.maps.use_map.Tie as tie
+use Rattle.mapuse.specs.Use.{greatestText}
+use Rattle.mapuse.proofs.Using.{too-long, reader-refuses, too-wide, too-high, can-be-used}
+use Rattle.mapuse.proofs.use_map.Statement.{statement}
+use Rattle.mapuse.proofs.use_map.Tie as tie
 
 returns : tie.Need-returns
 returns c = too-long _ _ (c .if1 .taken)
