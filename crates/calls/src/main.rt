@@ -254,10 +254,10 @@ fn of_entry_written(n: EntryWrittenNumbers) -> [u32; 6] {
     ]
 }
 
-// ---- the route log
-
-// Stands in place of a kind where there is no such entry.
+// Stands in place of a kind where the libraries have no such entry.
 const NO_ENTRY: u32 = 4294967295;
+
+// ---- the route log
 
 // The two records of an entry.
 const RECORDS: usize = 2 * RECORD_SIZE;

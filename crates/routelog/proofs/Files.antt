@@ -3,7 +3,7 @@ use mathlib.Core.Path.{_≡_, refl, sym, ap, _∙_}
 use mathlib.Core.List.{List, [], _∷_, _++_, append-assoc, append-nil}
 use Prim.Native.Nat.{ℕ, zero, suc, _≤_}
 use native.Mathlib.Omega.{arith}
-use lib.ListN.{length, drop, length-drop}
+use lib.ListN.{length, length-drop}
 use lib.Seq.{drop-append-seam}
 use Rattle.floor.specs.declared.Screen.{Screen}
 use Rattle.floor.specs.declared.Screen.the-variants.{Passed, Refused}

@@ -13,3 +13,4 @@ pub mod Searches
 pub mod Refusals
 pub mod Window
 pub mod Calls
+pub mod CallTrip

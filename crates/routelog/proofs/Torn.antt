@@ -7,7 +7,7 @@ use native.Mathlib.Decide.{decLt, decLe, ℕ-discrete}
 use native.Mathlib.Omega.{arith}
 use borrow.Author.Tests.{ne-eqb, le-leb, lt-leb}
 use lib.Dec.{eqb, eqb→eq}
-use lib.ListN.{length, take, drop, length-append}
+use lib.ListN.{length, take, length-append}
 use lib.Seq.{take-append-add, take-append-le, drop-append-seam, length-take-le}
 use Rattle.paths.proofs.Bools.{T-true, eq-T, same-test}
 use Rattle.recordlayout.specs.Record.{recordSize}

@@ -5,7 +5,7 @@ ghost use lib.ListN.{length};
 ghost use Rattle.floor.specs.Refusal.{screen};
 ghost use Rattle.putting.specs.Put.{IsPut};
 ghost use Rattle.recordlayout.specs.Record.{recordSize};
-ghost use Rattle.logentries.specs.Entry.{greatestLength, entryOf, routeSize, routeBytes, entryBytes};
+ghost use Rattle.logentries.specs.Entry.{greatestLength, entryOf, entryBytes};
 ghost use Rattle.routelog.specs.Writing.{partLines, numbersOf, IsWritten};
 ghost use Rattle.routelog.specs.Calls.{writtenNumbers, WriteCalled};
 use crate::EntryWritten;

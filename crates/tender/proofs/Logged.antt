@@ -1,23 +1,23 @@
 -- The route log: the theorems of `routelog`, and each record of a buffer with the route that the search left for it.
-use mathlib.Core.Path.{_≡_, refl, sym, ap, _∙_}
+use mathlib.Core.Path.{_≡_, _∙_}
 use mathlib.Core.List.{List}
-use Prim.Native.Nat.{ℕ, _+_, _*_, _/_, _≤_, _<_}
+use Prim.Native.Nat.{ℕ, _*_, _≤_, _<_}
 use native.Mathlib.Nat.{div-add-mod'}
 use native.Mathlib.Omega.{arith}
-use lib.ListN.{length, take, drop, length-drop}
+use lib.ListN.{length, drop, length-drop}
 use lib.Seq.{length-take-le}
 use Rattle.floor.specs.declared.Floor.{Floor}
 use Rattle.floor.specs.Place.{cells}
 use Rattle.search.specs.declared.Answer.{Answer}
-use Rattle.search.specs.Search.{Rooms, numbersOf}
-use Rattle.recordlayout.specs.Record.{recordSize, questionIn, waysIn, recordOf}
-use Rattle.logentries.specs.Entry.{entryOf, stepsIn, IsEntry}
+use Rattle.search.specs.Search.{Rooms}
+use Rattle.recordlayout.specs.Record.{recordSize, questionIn, waysIn}
 use Rattle.routelog.proofs.Logging.{refused, answer-logged}
 use Rattle.routelog.proofs.Searches.{Logs, searched-logs, logs-entry}
 use Rattle.routelog.proofs.Files.{log-written, log-back, same-bytes}
 use Rattle.routelog.proofs.Torn.{log-cut}
 use Rattle.routelog.proofs.Window.{window-reads, piece-tells}
 use Rattle.routelog.proofs.RoundTrip as trip
+use Rattle.routelog.proofs.CallTrip.{reads-back-call, writes-back-call}
 use Rattle.mapuse.specs.Use.{greatestUsedCells}
 use Rattle.desk.specs.Desk.{withWays, Asked, no-zeros, searched, wholeRecords, recordAt, IsAnswered}
 use Rattle.tender.specs.RouteLog.{CanBeEntered, RouteLog}
@@ -52,8 +52,10 @@ answers-entered f m bytes r k bytes′ r′ x few i h =
 pub route-log : RouteLog
 route-log = record {
   reads-back = λ e q a room room′ n w more route route′ r x. trip.reads-back e room room′ more route route′ n r q a w x;
+  reads-back-call = reads-back-call;
   file-read = log-written;
   writes-back = λ rest route route′ n taken r x e room room′ w. trip.writes-back rest route route′ room room′ n taken r w x e;
+  writes-back-call = writes-back-call;
   file-written = log-back;
   one-list = same-bytes;
   torn = log-cut;

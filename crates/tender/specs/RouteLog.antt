@@ -2,12 +2,13 @@
 -- loses no whole entry, and every answer can be logged. What is refused is in FirstCondition.
 use mathlib.Core.Path.{_≡_}
 use mathlib.Core.Logic.{_≢_}
-use mathlib.Core.List.{List, _++_}
+use mathlib.Core.List.{List, [], _∷_, _++_}
 use Prim.Native.Nat.{ℕ, _≤_, _<_}
 use lib.ListN.{length, take, drop}
 use Rattle.floor.specs.declared.Floor.{Floor}
 use Rattle.floor.specs.declared.Screen.the-variants.{Passed}
 use Rattle.floor.specs.Place.{cells}
+use Rattle.floor.specs.Numbers.{gives}
 use Rattle.search.specs.declared.Answer.{Answer}
 use Rattle.search.specs.Search.{Rooms, numbersOf}
 use Rattle.recordlayout.specs.Record.{recordSize, recordOf}
@@ -20,6 +21,7 @@ use Rattle.routelog.specs.declared.EntryWrittenNumbers.{EntryWrittenNumbers}
 use Rattle.logentries.specs.Entry.{Entry, entryOf, IsEntry}
 use Rattle.routelog.specs.Reading.{refused, readingOf, greatestEntry, IsRead}
 use Rattle.routelog.specs.Writing.{IsWritten}
+use Rattle.routelog.specs.Calls.{entryNumbers, writtenNumbers, ReadCalled, WriteCalled}
 use Rattle.routelog.specs.File.{fileBytes, logWith, logOf, AllEntries, wholeBefore, cutEnding}
 use Rattle.mapuse.specs.Use.{greatestUsedCells}
 use Rattle.desk.specs.Desk.{Asked, wholeRecords, recordAt, IsAnswered}
@@ -42,12 +44,22 @@ pub record RouteLog : Type 0 where
       → (room room′ : List ℕ) (n : ℕ) → IsWritten e room (Length n) room′
       → (more route route′ : List ℕ) (r : EntryRead) → IsRead (take n room′ ++ more) route r route′ → length (e .route) ≤ length route
       → (r ≡ record { outcome = Logged (length (e .route)) n; question = e .question; answer = e .answer }) × (route′ ≡ e .route ++ drop (length (e .route)) route)
+  -- and so for the two calls from C, where a refusal of 0 says that the entry was written
+  pub reads-back-call : (e : Entry) → length (e .question) ≡ recordSize → length (e .answer) ≡ recordSize
+      → (room room′ : List ℕ) (n : EntryWrittenNumbers) → WriteCalled e room n room′ → n .refusal ≡ 0
+      → (more route route′ : List ℕ) (k : EntryNumbers) → ReadCalled (take (n .length) room′ ++ more) route k route′ → length (e .route) ≤ length route
+      → (k ≡ entryNumbers (gives (length (e .route) ∷ n .length ∷ [])) (e .question) (e .answer)) × (route′ ≡ e .route ++ drop (length (e .route)) route)
   -- and whole files
   pub file-read : (room : ℕ) (es : List Entry) → AllEntries room es → logOf (fileBytes es) room ≡ logWith es Passed
   -- "a file that is read writes back byte for byte": one entry
   pub writes-back : (rest route route′ : List ℕ) (n taken : ℕ) (r : EntryRead) → IsRead rest route r route′ → r .outcome ≡ Logged n taken
       → (room room′ : List ℕ) (w : EntryWritten) → IsWritten (entryOf (r .question) (r .answer) (take n route′)) room w room′ → taken ≤ length room
       → (w ≡ Length taken) × (room′ ≡ take taken rest ++ drop taken room)
+  -- and so for the two calls
+  pub writes-back-call : (rest route route′ : List ℕ) (k : EntryNumbers) → ReadCalled rest route k route′ → k .refusal ≡ 0 → 0 < k .taken
+      → (room room′ : List ℕ) (n : EntryWrittenNumbers) → WriteCalled (entryOf (k .question) (k .answer) (take (k .length) route′)) room n room′
+      → k .taken ≤ length room
+      → (n ≡ writtenNumbers (gives (k .taken ∷ []))) × (room′ ≡ take (k .taken) rest ++ drop (k .taken) room)
   -- and whole files
   pub file-written : (room : ℕ) (file : List ℕ) (es : List Entry) → logOf file room ≡ logWith es Passed → fileBytes es ≡ file
   pub one-list : (room : ℕ) (es fs : List Entry) → AllEntries room es → AllEntries room fs → fileBytes es ≡ fileBytes fs → es ≡ fs
