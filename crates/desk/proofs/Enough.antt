@@ -1,7 +1,7 @@
--- With enough room the lines 9 to 11 pass on every map that can be used, so that the lines before them are all that can refuse.
-use mathlib.Core.Path.{_≡_, sym, ap, _∙_, subst}
-use mathlib.Core.List.{List}
-use mathlib.Core.Logic.{_⊎_, inl, inr}
+-- With enough room the lines 9 to 11 pass on every map that can be used, so that only the lines before and after them can refuse.
+use mathlib.Core.Path.{_≡_, sym, ap, _∙_}
+use mathlib.Core.List.{List, [], _∷_, _++_}
+use mathlib.Core.Logic.{_⊎_, inl, inr, ⊎-elim}
 use Prim.Native.Nat.{ℕ, _*_, _≤_, _<_}
 use native.Mathlib.Nat.{mul-le-mul}
 use native.Mathlib.Omega.{arith}
@@ -14,17 +14,17 @@ use Rattle.floor.specs.declared.Screen.the-variants.{Passed, Refused}
 use Rattle.floor.specs.Place.{cells}
 use Rattle.floor.specs.Refusal.{screen, questionLines}
 use Rattle.floor.proofs.Screens.{andThen, screen-append}
+use Rattle.floor.proofs.Lines.{number-between}
 use Rattle.maptext.specs.declared.Read.the-variants.{Map}
 use Rattle.maptext.specs.Reading as reading
 use Rattle.maptext.specs.Reading.{readFor}
 use Rattle.search.specs.declared.Answer.{Answer}
-use Rattle.search.specs.Search.{Rooms, roomLines, searchLines, answered, rowOf, refused, passed, numbersOf}
+use Rattle.search.specs.Search.{Rooms, roomLines, limitLine, searchLines, answered, rowOf, refused, passed, numbersOf}
 use Rattle.recordlayout.specs.Record.{questionIn, waysIn}
 use Rattle.mapuse.specs.Use.{greatestUsedCells, usedOf}
 use Rattle.mapuse.proofs.Using.{can-use}
 use Rattle.desk.specs.Desk.{withWays, Asked, no-zeros, searched}
 use Rattle.desk.specs.Room.{EnoughRoom}
-use Rattle.desk.proofs.Fitting.{NumberBelow, screen-below}
 
 module _ (text : List ℕ) (room : ℕ) (f : Floor) (used : reading.numbersOf (Map f) ≡ readFor (usedOf text room)) (r : Rooms) (enough : EnoughRoom r) where
   rooms-pass : (ways : ℕ) → screen (roomLines (withWays f ways) (length (r .costs)) (length (r .work)) (length (r .route))) ≡ Passed
@@ -42,22 +42,26 @@ module _ (text : List ℕ) (room : ℕ) (f : Floor) (used : reading.numbersOf (M
   not-refused Kind.none a = omega arith
   not-refused Kind.stopped a = omega arith
 
-  -- what the lines 1 to 8 give
-  early : (s : Screen) → NumberBelow 9 s → NumberBelow 9 (andThen s Passed)
-  early Passed b = b
-  early (Refused n p) b = b
+  -- a refusal is given by the lines before them or by those after
+  before-or-after : {n p : ℕ} (early late : Screen) → andThen (andThen early Passed) late ≡ Refused n p → (early ≡ Refused n p) ⊎ (late ≡ Refused n p)
+  before-or-after Passed late e = inr e
+  before-or-after (Refused i j) late e = inl e
 
   -- no question about a map that can be used is refused as 9, 10 or 11
-  pub room-enough : (m question : List ℕ) {a : Answer} {r′ : Rooms} → Asked f m question r a r′ → (numbersOf a .refusal < 9) ⊎ (numbersOf a .refusal ≡ 13)
-  room-enough m question (no-zeros z e l) = inr (ap (λ (x : Answer). numbersOf x .refusal) e)
+  pub room-enough : (m question : List ℕ) {a : Answer} {r′ : Rooms} → Asked f m question r a r′ → (numbersOf a .refusal < 9) ⊎ (11 < numbersOf a .refusal)
+  room-enough m question (no-zeros z e l) = inr (rw e (omega arith))
   room-enough m question (searched z (passed e x)) =
       let w = rowOf (withWays f (waysIn question)) m (questionIn question) (x .table) in
       inl (rw (x .answer) (not-refused (w .kind) w))
   room-enough m question (searched z (refused n p e k l)) =
       let g = withWays f (waysIn question) in
       let q = questionIn question in
-      let lines = questionLines g m (q .start) (q .goal) in
-      let tried : screen (searchLines g m q r) ≡ andThen (screen lines) Passed =
-      screen-append lines (roomLines g (length (r .costs)) (length (r .work)) (length (r .route))) ∙ ap (andThen (screen lines)) (rooms-pass (waysIn question)) in
-      let b : NumberBelow 9 (Refused n p) = subst (NumberBelow 9) (sym tried ∙ e) (early (screen lines) (screen-below 9 lines tt)) in
-      inl (rw k b)
+      let early = questionLines g m (q .start) (q .goal) in
+      let late = limitLine (q .limit) ∷ [] in
+      let rooms = roomLines g (length (r .costs)) (length (r .work)) (length (r .route)) in
+      let tried : screen (searchLines g m q r) ≡ andThen (andThen (screen early) Passed) (screen late) =
+      screen-append (early ++ rooms) late
+      ∙ ap (λ (s : Screen). andThen s (screen late)) (screen-append early rooms ∙ ap (andThen (screen early)) (rooms-pass (waysIn question))) in
+      rw k
+      (⊎-elim (λ h. inl (number-between 0 9 early tt tt h .1)) (λ h. inr (number-between 11 16 late tt tt h .0))
+      (before-or-after (screen early) (screen late) (sym tried ∙ e)))

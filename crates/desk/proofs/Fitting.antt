@@ -1,12 +1,12 @@
 -- Every number of an answer has room in its field: settled counts and routes are no longer than the floor has cells, costs are at most MARK, and a
 -- stopped search has settled as many cells as the question's limit, which came from four bytes.
 use mathlib.Core.Path.{_≡_, refl}
-use mathlib.Core.Bool.{Bool, true, _&&_}
-use mathlib.Core.List.{List, [], _∷_}
+use mathlib.Core.Bool.{_&&_}
+use mathlib.Core.List.{List}
 use Prim.Native.Nat.{ℕ, _+_, _≤_, _<_}
 use native.Mathlib.Decide.{ℕ-discrete, decLt}
 use native.Mathlib.Omega.{arith}
-use lib.Dec.{T, eqb, leb, ltb, ltb→lt}
+use lib.Dec.{eqb, leb, ltb, ltb→lt}
 use lib.ListN.{length, getD, take, drop, length-take, List·getD-eq-default}
 use lib.Seq.{getD-take, getD-drop}
 use Rattle.paths.specs.Graph.{MARK}
@@ -19,36 +19,20 @@ use Rattle.paths.proofs.Below.{count-le}
 use Rattle.settling.proofs.Orders.{known-is, in-known, place-absent, length-sorted}
 use Rattle.paths.proofs.Meaning.{reachable-known, one-first-route, first-route-cost, least-cost-route-short}
 use Rattle.floor.specs.declared.Floor.{Floor}
-use Rattle.floor.specs.declared.Screen.{Screen}
-use Rattle.floor.specs.declared.Screen.the-variants.{Passed, Refused}
 use Rattle.floor.specs.Place.{cells}
-use Rattle.floor.specs.Refusal.{Line, screen, HasPassed}
+use Rattle.floor.specs.Refusal.{HasPassed}
 use Rattle.floor.specs.Step.{graph}
 use Rattle.floor.proofs.Passing.{facts, few-cells}
 use Rattle.floor.proofs.Laws.{lawful, least-cost-bound}
 use Rattle.floor.proofs.Questions.{question-passed, start-inside, goal-inside}
 use Rattle.search.specs.declared.Answer.{Answer}
-use Rattle.search.specs.Search.{Question, Rooms, searchLines, answered, Searched, refused, passed, numbersOf}
+use Rattle.search.specs.Search.{Question, Rooms, answered, Searched, refused, passed, numbersOf}
 use Rattle.search.proofs.Lending.{search-question}
+use Rattle.search.proofs.Promise.{search-numbers}
 use Rattle.recordlayout.specs.Record.{questionIn}
 use Rattle.recordlayout.specs.Fields.{InRecord}
 use Rattle.recordlayout.proofs.Records.{number-small, refusal-in-record}
 use Rattle.desk.specs.Desk.{Asked, no-zeros, searched}
-
--- lines with numbers below k refuse with such a number
-abbrev pub numbersBelow : ℕ → List Line → Bool
-numbersBelow k [] = true
-numbersBelow k (l ∷ ls) = ltb (l .number) k && numbersBelow k ls
-
-abbrev pub NumberBelow : ℕ → Screen → Type 0
-NumberBelow k Passed = Unit {0}
-NumberBelow k (Refused n p) = n < k
-
-pub screen-below : (k : ℕ) (ls : List Line) → T (numbersBelow k ls) → NumberBelow k (screen ls)
-screen-below k [] t = tt
-screen-below k (l ∷ ls) t =
-    let a = T-and (ltb (l .number) k) (numbersBelow k ls) t in
-    by-cond (NumberBelow k) (l .given) _ _ (λ h. ltb→lt (l .number) k (a .0)) (λ h. screen-below k ls (a .1))
 
 abbrev RowFits : Row → Type 0
 RowFits a = InRecord (numbersOf (answered (a .kind) a))
@@ -116,10 +100,7 @@ module _ (f : Floor) (m : List ℕ) (passed : HasPassed f m) (s : ℕ) (start : 
 
 searched-fits : (f : Floor) (m : List ℕ) (q : Question) (r : Rooms) {a : Answer} {r′ : Rooms} → q .limit ≤ MARK → Searched f m q r a r′
     → InRecord (numbersOf a)
-searched-fits f m q r small (refused n p e b l) = rw b (refusal-in-record n p (below n p (rw e at (screen-below 12 (searchLines f m q r) tt))))
-  where
-    below : (n p : ℕ) → NumberBelow 12 (Refused n p) → n < 256
-    below n p h = omega arith
+searched-fits f m q r small (refused n p e b l) = rw b (refusal-in-record n p (omega (arith, search-numbers f m q r e .1)))
 searched-fits f m q r small (passed e x) =
     let p = search-question f m q r e in
     rw (x .answer)

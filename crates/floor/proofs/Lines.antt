@@ -89,7 +89,13 @@ lowest-line (l ∷ ls) b r n p =
     let s = T-and (ltb b (l .number)) (rising (l .number) ls) r in
     by-head l ls (above (l .number) ls (s .1)) n p (lowest-line ls (l .number) (s .1) n p) (l .given) refl
 
--- the same of an answer of another kind: `out` gives it for a screen, and `back` tells the screen from it
+-- a refusal has the number of a line: above b and below c, where those of all lines are
+pub number-between : (b c : ℕ) (ls : List Line) → T (rising b ls) → T (allBelow c ls) → {n p : ℕ} → screen ls ≡ Refused n p → (b < n) × (n < c)
+number-between b c ls r s {n} {p} e =
+    let has = lowest-line ls b r n p .0 e .applies in
+    (above b ls r (line n true p) has, below c ls s (line n true p) has)
+
+-- the lowest that applies, of an answer of another kind: `out` gives it for a screen, and `back` tells the screen from it
 module _ {A : Type 0} (out : Screen → A) (back : A → Screen) (same : (s : Screen) → back (out s) ≡ s) {a : A} (ls : List Line) (e : a ≡ out (screen ls)) where
   pub refused-lines : (n p : ℕ) → a ≡ out (Refused n p) → screen ls ≡ Refused n p
   refused-lines n p x = sym (same (screen ls)) ∙ ap back (sym e ∙ x) ∙ same (Refused n p)

@@ -21,13 +21,13 @@ use Rattle.settling.proofs.Orders.{known-is, in-known, in-at, place-absent}
 use Rattle.floor.specs.declared.Floor.{Floor}
 use Rattle.floor.specs.Place.{cells}
 use Rattle.floor.specs.Step.{graph}
-use Rattle.floor.specs.Refusal.{line, HasPassed}
-use Rattle.floor.proofs.Lines.{above, below, lowest-line}
+use Rattle.floor.specs.Refusal.{HasPassed}
 use Rattle.floor.proofs.Laws.{lawful, least-cost-bound}
 use Rattle.floor.proofs.Questions.{question-passed, start-inside, goal-inside}
 use Rattle.search.specs.declared.Answer.{Answer}
-use Rattle.search.specs.Search.{Question, Rooms, searchLines, answered, Searched, numbersOf}
+use Rattle.search.specs.Search.{Question, Rooms, answered, Searched, numbersOf}
 use Rattle.search.proofs.Lending.{search-question}
+use Rattle.search.proofs.Promise.{search-numbers}
 use Rattle.recordlayout.specs.Record.{recordSize, recordOf}
 use Rattle.recordlayout.proofs.Records.{record-length}
 use Rattle.routelog.specs.declared.EntryWritten.{EntryWritten}
@@ -113,10 +113,8 @@ pub record Logs (a : Answer) (route : List ℕ) : Type 0 where
 pub searched-logs : (f : Floor) (m : List ℕ) (q : Question) (r : Rooms) {a : Answer} {r′ : Rooms} → cells f ≤ suc greatestLength → Searched f m q r a r′
     → Logs a (r′ .route)
 searched-logs f m q r few (Searched.refused n p e b l) =
-    let has = lowest-line (searchLines f m q r) 0 tt n p .0 e .applies in
-    let least = above 0 (searchLines f m q r) tt (line n true p) has in
-    let most = below 12 (searchLines f m q r) tt (line n true p) has in
-    rw b (record { can = refused n p least (omega arith); there = omega arith; right = tt })
+    let numbers = search-numbers f m q r e in
+    rw b (record { can = refused n p (numbers .0) (omega (arith, numbers .1)); there = omega arith; right = tt })
 searched-logs f m q r {r′ = r′} few (Searched.passed e x) =
     let p = search-question f m q r e in
     let good = question-passed f m (q .start) (q .goal) p in

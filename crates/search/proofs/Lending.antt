@@ -1,17 +1,19 @@
 -- The promise from the rooms' parts: a refusal leaves everything as it was, and else each part is followed by the rest of its room.
 use mathlib.Core.Path.{_≡_, refl}
-use mathlib.Core.List.{List, _++_}
-use Prim.Native.Nat.{ℕ, _*_, _≤_}
-use lib.Dec.{nltb→le}
+use mathlib.Core.Bool.{not}
+use mathlib.Core.List.{List, [], _∷_, _++_}
+use Prim.Native.Nat.{ℕ, zero, suc, _*_, _≤_}
+use native.Mathlib.Omega.{arith}
+use lib.Dec.{T, eqb, nltb→le}
 use lib.ListN.{length, drop, replicate}
 use Rattle.floor.specs.declared.Floor.{Floor}
 use Rattle.floor.specs.declared.Screen.the-variants.{Passed, Refused}
 use Rattle.floor.specs.Place.{cells}
-use Rattle.floor.specs.Refusal.{screen, questionLines}
+use Rattle.floor.specs.Refusal.{Line, screen, questionLines}
 use Rattle.floor.proofs.Questions.{passed-both}
 use Rattle.floor.proofs.Screens.{none-given}
 use Rattle.search.specs.declared.Answer.{Answer}
-use Rattle.search.specs.Search.{Question, Rooms, rooms, roomLines, searchLines, Searched, refused, passed}
+use Rattle.search.specs.Search.{Question, Rooms, rooms, roomLines, limitLine, searchLines, Searched, refused, passed}
 use Rattle.search.specs.Last.{Finished}
 
 module _ (f : Floor) (m : List ℕ) (q : Question) (r : Rooms) where
@@ -19,20 +21,35 @@ module _ (f : Floor) (m : List ℕ) (q : Question) (r : Rooms) where
   searched-refused n p e = refused n p e refl refl
 
   module _ (e : screen (searchLines f m q r) ≡ Passed) where
-    parts : (screen (questionLines f m (q .start) (q .goal)) ≡ Passed) × (screen (roomLines f (length (r .costs)) (length (r .work)) (length (r .route))) ≡ Passed)
-    parts = passed-both (questionLines f m (q .start) (q .goal)) (roomLines f (length (r .costs)) (length (r .work)) (length (r .route))) e
+    abbrev room-lines : List Line
+    room-lines = roomLines f (length (r .costs)) (length (r .work)) (length (r .route))
+
+    -- 1 to 11, and 15
+    both : (screen (questionLines f m (q .start) (q .goal) ++ room-lines) ≡ Passed) × (screen (limitLine (q .limit) ∷ []) ≡ Passed)
+    both = passed-both (questionLines f m (q .start) (q .goal) ++ room-lines) (limitLine (q .limit) ∷ []) e
+
+    parts : (screen (questionLines f m (q .start) (q .goal)) ≡ Passed) × (screen room-lines ≡ Passed)
+    parts = passed-both (questionLines f m (q .start) (q .goal)) room-lines (both .0)
 
     pub search-question : screen (questionLines f m (q .start) (q .goal)) ≡ Passed
     search-question = parts .0
 
     pub long-costs : cells f ≤ length (r .costs)
-    long-costs = nltb→le (length (r .costs)) (cells f) (none-given (roomLines f (length (r .costs)) (length (r .work)) (length (r .route))) (parts .1) .0)
+    long-costs = nltb→le (length (r .costs)) (cells f) (none-given room-lines (parts .1) .0)
 
     pub long-work : 2 * cells f ≤ length (r .work)
-    long-work = nltb→le (length (r .work)) (2 * cells f) (none-given (roomLines f (length (r .costs)) (length (r .work)) (length (r .route))) (parts .1) .1 .0)
+    long-work = nltb→le (length (r .work)) (2 * cells f) (none-given room-lines (parts .1) .1 .0)
 
     pub long-route : cells f ≤ length (r .route)
-    long-route = nltb→le (length (r .route)) (cells f) (none-given (roomLines f (length (r .costs)) (length (r .work)) (length (r .route))) (parts .1) .1 .1 .0)
+    long-route = nltb→le (length (r .route)) (cells f) (none-given room-lines (parts .1) .1 .1 .0)
+
+    -- 02, R-2: a search that is not refused may settle a cell
+    pub some-limit : 1 ≤ q .limit
+    some-limit = go (q .limit) (none-given (limitLine (q .limit) ∷ []) (both .1) .0)
+      where
+        go : (k : ℕ) → T (not (eqb k 0)) → 1 ≤ k
+        go zero t = absurd t
+        go (suc k) t = omega arith
 
     -- n is the number of cells, as the code has it
     pub searched-passed : (n : ℕ) → n ≡ cells f → {a : Answer} {costs′ work′ route′ : List ℕ} → Finished f m q (r .route) a costs′ route′

@@ -1,13 +1,14 @@
 -- The promise leaves nothing open: the right table is unique, and where the question is refused no table is looked at.
 use mathlib.Core.Path.{_≡_, sym, _∙_, ap}
 use mathlib.Core.List.{List}
-use Prim.Native.Nat.{ℕ}
+use Prim.Native.Nat.{ℕ, _≤_, _<_}
 use native.Mathlib.Omega.{arith}
 use Rattle.paths.proofs.Exists.{right-unique}
 use Rattle.floor.specs.declared.Floor.{Floor}
 use Rattle.floor.specs.declared.Screen.the-variants.{Passed, Refused}
 use Rattle.floor.specs.Refusal.{screen}
 use Rattle.floor.specs.Step.{graph}
+use Rattle.floor.proofs.Lines.{number-between}
 use Rattle.search.specs.declared.Answer.{Answer}
 use Rattle.search.specs.declared.AnswerNumbers.{AnswerNumbers}
 use Rattle.search.specs.Search.{Question, Rooms, searchLines, rowOf, answered, after, ByTable, Searched, refused, passed, numbersOf, Called}
@@ -21,6 +22,10 @@ module _ {f : Floor} {m : List ℕ} {q : Question} {r : Rooms} {a : Answer} {r�
   pub by-refusal : Searched f m q r a r′ → (n p : ℕ) → screen (searchLines f m q r) ≡ Refused n p → (a ≡ Answer.Refused n p) × (r′ ≡ r)
   by-refusal (refused i j e b l) n p k = (cc, l)
   by-refusal (passed e x) n p k = let z : _≡_ {A = ℕ} 0 1 = cc in absurd (omega arith)
+
+-- a refusal of the search is one of 1 to 15
+pub search-numbers : (f : Floor) (m : List ℕ) (q : Question) (r : Rooms) {n p : ℕ} → screen (searchLines f m q r) ≡ Refused n p → (0 < n) × (n ≤ 15)
+search-numbers f m q r e = let k = number-between 0 16 (searchLines f m q r) tt tt e in (k .0, omega (arith, k .1))
 
 -- a second answer with rooms that meet the promise is equal
 pub one-search : (f : Floor) (m : List ℕ) (q : Question) (r : Rooms) {a b : Answer} {r₁ r₂ : Rooms}

@@ -2,7 +2,7 @@
 use mathlib.Core.Path.{_≡_}
 use mathlib.Core.List.{List, [], _∷_, _++_}
 use Prim.Native.Nat.{ℕ, _*_}
-use lib.Dec.{ltb}
+use lib.Dec.{eqb, ltb}
 use lib.ListN.{length, drop, replicate}
 use Rattle.paths.specs.Graph.{MARK}
 use Rattle.paths.specs.Table.{Right}
@@ -42,8 +42,16 @@ roomLines f costs work route = line 9 (ltb costs (cells f)) 0 ∷ line 10 (ltb w
 abbrev pub lengthLines : Floor → List ℕ → ℕ → ℕ → ℕ → ℕ → ℕ → List Line
 lengthLines f m start goal costs work route = questionLines f m start goal ++ roomLines f costs work route
 
+-- 15: the limit is 0 (02, R-2)
+abbrev pub limitLine : ℕ → Line
+limitLine limit = line 15 (eqb limit 0) 0
+
+-- 1 to 11, and then 15: a search that has a limit
+abbrev pub limitedLines : Floor → List ℕ → Question → ℕ → ℕ → ℕ → List Line
+limitedLines f m q costs work route = lengthLines f m (q .start) (q .goal) costs work route ++ (limitLine (q .limit) ∷ [])
+
 abbrev pub searchLines : Floor → List ℕ → Question → Rooms → List Line
-searchLines f m q r = lengthLines f m (q .start) (q .goal) (length (r .costs)) (length (r .work)) (length (r .route))
+searchLines f m q r = limitedLines f m q (length (r .costs)) (length (r .work)) (length (r .route))
 
 -- the row of 01's table that the right table of the start gives
 abbrev pub rowOf : Floor → List ℕ → Question → List ℕ → Row

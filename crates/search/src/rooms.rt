@@ -5,7 +5,7 @@ ghost use Prim.Native.Nat.{_*_, _≤_, _<_};
 ghost use Rattle.floor.specs.Place.{cells, floorOf};
 ghost use Rattle.floor.specs.Refusal.{HasPassed, screen};
 ghost use Rattle.search.specs.Last.{Finished};
-ghost use Rattle.search.specs.Search.{question, rooms, lengthLines, Searched, numbersOf, Called};
+ghost use Rattle.search.specs.Search.{question, rooms, limitedLines, Searched, numbersOf, Called};
 use crate::Answer;
 use crate::AnswerNumbers;
 use crate::last::finish;
@@ -15,17 +15,18 @@ use floor::Screen;
 use wave::bands::fill;
 use wave::bands::settle;
 
-// Refusals 1 to 8 of the question, then 9 to 11 of the rooms' lengths.
+// Refusals 1 to 8 of the question, then 9 to 11 of the rooms' lengths, then 15 of the limit.
 fn screen_search(
     f: Floor,
     map: &[u8],
     start: usize,
     goal: usize,
+    limit: usize,
     costs: usize,
     work: usize,
     route: usize,
 ) -> Screen
-    ensures { λ r. ⌜ r ≡ screen (lengthLines f (now (map .entry)) start goal costs work route) ⌝ }
+    ensures { λ r. ⌜ r ≡ screen (limitedLines f (now (map .entry)) (question start goal limit) costs work route) ⌝ }
 {
     let question = screens::screen_question(f, map, start, goal);
     match question {
@@ -40,6 +41,9 @@ fn screen_search(
             }
             if route < cells {
                 return Screen::Refused(11, 0);
+            }
+            if limit == 0 {
+                return Screen::Refused(15, 0);
             }
             Screen::Passed
         }
@@ -81,7 +85,8 @@ pub fn search(
 {
     let from = start as usize;
     let to = goal as usize;
-    let screen = screen_search(f, map, from, to, costs.len(), work.len(), route.len());
+    let most = limit as usize;
+    let screen = screen_search(f, map, from, to, most, costs.len(), work.len(), route.len());
     match screen {
         Screen::Refused(number, place) => Answer::Refused(number, place),
         Screen::Passed => {
@@ -92,7 +97,7 @@ pub fn search(
                 map,
                 from,
                 to,
-                limit as usize,
+                most,
                 &mut costs[..cells],
                 &mut work[..places],
                 route,

@@ -1,15 +1,16 @@
--- What `screen_question` found stands, and after `Passed` the lines of the rooms' lengths are left; each return decides one of them, in their order.
+-- What `screen_question` found stands, and after `Passed` the lines of the rooms' lengths and of the limit are left; each return decides one of them, in their order.
 use mathlib.Core.Path.{_≡_, sym, _∙_}
+use mathlib.Core.List.{List, [], _∷_, _++_}
 use Prim.Native.Nat.{_*_}
 use native.Mathlib.Omega.{arith}
 use borrow.Author.Needs.{needs}
-use borrow.Author.Tests.{lt-ltb, le-ltb}
+use borrow.Author.Tests.{eq-eqb, ne-eqb, lt-ltb, le-ltb}
 use lib.ListN.{length}
 use Rattle.floor.specs.Place.{cells}
-use Rattle.floor.specs.Refusal.{screen, questionLines}
+use Rattle.floor.specs.Refusal.{Line, screen, questionLines}
 use Rattle.floor.proofs.Screens.{screen-after}
 use Rattle.floor.proofs.Questions.{question-covers}
-use Rattle.search.specs.Search.{roomLines, lengthLines}
+use Rattle.search.specs.Search.{question, roomLines, limitLine, limitedLines}
 use Rattle.search.proofs.rooms.screen_search.Statement.{statement}
 use Rattle.search.proofs.rooms.screen_search.Tie as tie
 
@@ -22,15 +23,18 @@ enum-known-question c = search needs
 enum-told : tie.Need-enum-told
 enum-told c = search needs
 
--- only the rooms' lines are left
+-- the lines after those of the question
+abbrev later : tie.Start → List Line
+later s = roomLines (s .args .f) (s .args .costs) (s .args .work) (s .args .route) ++ (limitLine (s .args .limit) ∷ [])
+
+-- only those are left
 left : (c : tie.After-enum-told) →
     let s = c .before .before .before .before in
-    screen (lengthLines (s .args .f) (s .args .map .now) (s .args .start) (s .args .goal) (s .args .costs) (s .args .work) (s .args .route))
-    ≡ screen (roomLines (s .args .f) (s .args .costs) (s .args .work) (s .args .route))
+    screen (limitedLines (s .args .f) (s .args .map .now) (question (s .args .start) (s .args .goal) (s .args .limit)) (s .args .costs) (s .args .work) (s .args .route))
+    ≡ screen (later s)
 left c =
     let s = c .before .before .before .before in
-    screen-after (questionLines (s .args .f) (s .args .map .now) (s .args .start) (s .args .goal))
-    (roomLines (s .args .f) (s .args .costs) (s .args .work) (s .args .route)) _ _ (c .before .before .screen-question .ensures) (c .enum-told .given .1)
+    screen-after (questionLines (s .args .f) (s .args .map .now) (s .args .start) (s .args .goal)) (later s) _ _ (c .before .before .screen-question .ensures) (c .enum-told .given .1)
 
 covers : (c : tie.After-enum-told) → let s = c .before .before .before .before in length (s .args .map .now) ≡ cells (s .args .f)
 covers c =
@@ -64,21 +68,32 @@ returns-3 c =
 
 returns-4 : tie.Need-returns-4
 returns-4 c =
-    let t = c .before in
-    let s = t .before .before .before .before in
-    rw
-    (screen-after (questionLines (s .args .f) (s .args .map .now) (s .args .start) (s .args .goal))
-    (roomLines (s .args .f) (s .args .costs) (s .args .work) (s .args .route)) _ _ (t .before .before .screen-question .ensures) (t .question .given .1))
-
-returns-5 : tie.Need-returns-5
-returns-5 c =
-    let t = c .before .before .before in
+    let t = c .before .before .before .before in
     let s = t .before .before .before .before in
     rw (
       left t,
       le-ltb (s .args .costs) (cells (s .args .f)) (omega (arith, covers t)),
       le-ltb (s .args .work) (2 * cells (s .args .f)) (omega (arith, covers t)),
       le-ltb (s .args .route) (cells (s .args .f)) (omega (arith, covers t)),
+      eq-eqb (s .args .limit) 0 (omega arith),
+    )
+
+returns-5 : tie.Need-returns-5
+returns-5 c =
+    let t = c .before in
+    let s = t .before .before .before .before in
+    rw (screen-after (questionLines (s .args .f) (s .args .map .now) (s .args .start) (s .args .goal)) (later s) _ _ (t .before .before .screen-question .ensures) (t .question .given .1))
+
+returns-6 : tie.Need-returns-6
+returns-6 c =
+    let t = c .before .before .before .before in
+    let s = t .before .before .before .before in
+    rw (
+      left t,
+      le-ltb (s .args .costs) (cells (s .args .f)) (omega (arith, covers t)),
+      le-ltb (s .args .work) (2 * cells (s .args .f)) (omega (arith, covers t)),
+      le-ltb (s .args .route) (cells (s .args .f)) (omega (arith, covers t)),
+      ne-eqb (s .args .limit) 0 (λ e. omega arith),
     )
 
 pub screen-search-spec : {M : Type 1} → statement M
@@ -93,4 +108,5 @@ screen-search-spec =
     returns-2
     returns-3
     returns-4
-    returns-5)
+    returns-5
+    returns-6)
