@@ -9,6 +9,7 @@ pub mod Records
 pub mod FirstHolds
 pub mod SecondHolds
 pub mod ThirdHolds
+pub mod LimitsHold
 pub mod OneTable
 pub mod AloneHolds
 pub mod Logged

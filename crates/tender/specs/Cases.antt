@@ -1,37 +1,45 @@
--- 01, "Floors to try": the cases a to l, and what it is that a case holds.
+-- 01, "Floors to try", with case h as 02's R-2 has it: the cases a to l, and what it is that a case holds.
 use mathlib.Core.Path.{_≡_}
 use mathlib.Core.List.{List, [], _∷_}
 use Prim.Native.Nat.{ℕ, _*_}
 use Rattle.paths.specs.Graph.{MARK}
 use Rattle.paths.specs.Table.{Right}
-use Rattle.settling.specs.Answer.{Kind, Row, answerOf, costsLeft}
+use Rattle.settling.specs.Answer.{Kind, Row, costsLeft}
 use Rattle.floor.specs.declared.Floor.{Floor}
-use Rattle.floor.specs.declared.Screen.the-variants.{Passed}
+use Rattle.floor.specs.declared.Screen.the-variants.{Passed, Refused}
 use Rattle.floor.specs.Place.{floorOf, cells}
 use Rattle.floor.specs.Step.{graph}
 use Rattle.floor.specs.Refusal.{Line, screen}
-use Rattle.search.specs.Search.{lengthLines}
+use Rattle.search.specs.Search.{Question, question, limitedLines, rowOf}
 
--- a question on a map, and what 01 says of it; `table` is the right table of the start, `costs` the costs that the search leaves
+-- what the paper says of a question: a row of its table, with the right table of the start and the costs that the search leaves; or a refusal and its place
+pub data Told : Type 0 where
+  gives : (row : Row) (table costs : List ℕ) → Told
+  refuses : (number place : ℕ) → Told
+
+-- a question on a map, and what is told of it
 pub record Case : Type 0 where
   pub floor : Floor
   pub bytes : List ℕ
-  pub start : ℕ
-  pub goal : ℕ
-  pub limit : ℕ
-  pub answer : Row
-  pub table : List ℕ
-  pub costs : List ℕ
+  pub asked : Question
+  pub told : Told
 
+-- the search's refusals, for rooms of just the lengths that it needs
 abbrev pub linesOf : Case → List Line
-linesOf c = let n = cells (c .floor) in lengthLines (c .floor) (c .bytes) (c .start) (c .goal) n (2 * n) n
+linesOf c = let n = cells (c .floor) in limitedLines (c .floor) (c .bytes) (c .asked) n (2 * n) n
 
-pub record Holds (c : Case) : Type 0 where
-  -- none of the refusals 1 to 11 is given for rooms of just the lengths that the search needs
+pub record Gives (c : Case) (row : Row) (table costs : List ℕ) : Type 0 where
   pub passed : screen (linesOf c) ≡ Passed
-  pub right : Right (graph (c .floor) (c .bytes)) (c .start) (c .table)
-  pub answers : answerOf (graph (c .floor) (c .bytes)) (c .start) (c .table) (c .goal) (c .limit) ≡ c .answer
-  pub leaves : costsLeft (c .table) (c .answer .settled) ≡ c .costs
+  pub right : Right (graph (c .floor) (c .bytes)) (c .asked .start) table
+  pub answers : rowOf (c .floor) (c .bytes) (c .asked) table ≡ row
+  pub leaves : costsLeft table (row .settled) ≡ costs
+
+abbrev pub HoldsAs : Case → Told → Type 0
+HoldsAs c (gives row table costs) = Gives c row table costs
+HoldsAs c (refuses n p) = screen (linesOf c) ≡ Refused n p
+
+abbrev pub Holds : Case → Type 0
+Holds c = HoldsAs c (c .told)
 
 abbrev pub AllHold : List Case → Type 0
 AllHold [] = Unit {0}
@@ -48,7 +56,11 @@ abbrev stopped : ℕ → ℕ → Row
 stopped n c = record { kind = Kind.stopped; settled = n; number = c; route = [] }
 
 abbrev case : Floor → List ℕ → ℕ → ℕ → ℕ → Row → List ℕ → List ℕ → Case
-case f m s g k a t c = record { floor = f; bytes = m; start = s; goal = g; limit = k; answer = a; table = t; costs = c }
+case f m s g k a t c = record { floor = f; bytes = m; asked = question s g k; told = gives a t c }
+
+-- a refusal with place 0
+abbrev refusedCase : Floor → List ℕ → ℕ → ℕ → ℕ → ℕ → Case
+refusedCase f m s g k n = record { floor = f; bytes = m; asked = question s g k; told = refuses n 0 }
 
 abbrev pub cases : List Case
 cases =
@@ -73,7 +85,7 @@ cases =
     -- g: .@.
     ∷ case (floorOf 3 1 8) (1 ∷ 0 ∷ 1 ∷ []) 0 2 1 (none 1) (0 ∷ MARK ∷ MARK ∷ []) (0 ∷ MARK ∷ MARK ∷ [])
     -- h: the same, limit 0
-    ∷ case (floorOf 3 1 8) (1 ∷ 0 ∷ 1 ∷ []) 0 2 0 (stopped 0 0) (0 ∷ MARK ∷ MARK ∷ []) (MARK ∷ MARK ∷ MARK ∷ [])
+    ∷ refusedCase (floorOf 3 1 8) (1 ∷ 0 ∷ 1 ∷ []) 0 2 0 15
     -- i: .
     ∷ case (floorOf 1 1 8) (1 ∷ []) 0 0 1 (found 1 0 []) (0 ∷ []) (0 ∷ [])
     -- j: .9

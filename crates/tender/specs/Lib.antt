@@ -4,4 +4,5 @@ pub mod SearchTable
 pub mod SecondCondition
 pub mod Alone
 pub mod ThirdCondition
+pub mod Limits
 pub mod RouteLog

@@ -48,6 +48,7 @@ pub record RecordHolds (f : Floor) (m : List ℕ) (q : Question) (r : Rooms) (an
   pub lengths : SameLengths r before
   pub table : TableHolds f m q numbers before after
 
+-- a question that passes has a limit from 1 on: 02, R-2, and `LimitsFromOne` in Limits.antt
 pub record SecondCondition : Type 0 where
   pub search : (f : Floor) (m : List ℕ) (q : Question) (r : Rooms) (a : Answer) (r′ : Rooms) → Searched f m q r a r′
       → screen (searchLines f m q r) ≡ Passed → TableHolds f m q (numbersOf a) r r′

@@ -1,0 +1,95 @@
+-- Limits from 1 on: L begins with the start, so that each row of 01's table settles it, and every cell after it in L is at least a step away.
+use mathlib.Core.Path.{_≡_, refl, sym, _∙_, subst}
+use mathlib.Core.Logic.{_⊎_, inl, inr, ⊎-elim, _≢_}
+use mathlib.Core.List.{List, [], _∷_}
+use Prim.Native.Nat.{ℕ, _≤_, _<_}
+use native.Mathlib.Omega.{arith}
+use lib.Dec.{T}
+use lib.ListN.{length, getD}
+use Rattle.paths.specs.Graph.{Graph, Lawful}
+use Rattle.paths.specs.Route.{walks, ends, costOf, Least}
+use Rattle.paths.proofs.Bools.{T-and}
+use Rattle.paths.proofs.Walks.{stay}
+use Rattle.settling.specs.List.{At, IsL}
+use Rattle.floor.specs.declared.Floor.{Floor}
+use Rattle.floor.specs.Step.{leastStep, greatestStep, graph}
+use Rattle.search.specs.declared.Answer.{Answer}
+use Rattle.search.specs.declared.Answer.the-variants.{Found, None, Stopped}
+use Rattle.search.specs.declared.AnswerNumbers.{AnswerNumbers}
+use Rattle.search.specs.Search.{Question, Rooms, Searched, refused, passed, numbersOf}
+use Rattle.search.proofs.Lending.{some-limit}
+use Rattle.recordlayout.specs.Record.{questionIn}
+use Rattle.desk.specs.Desk.{Asked, no-zeros, searched, wholeRecords}
+use Rattle.tender.specs.SearchTable.{Answers}
+use Rattle.tender.specs.Limits.{Tells, LimitsFromOne}
+use Rattle.tender.proofs.Rowed.{law}
+use Rattle.tender.proofs.Tabled.{table-holds}
+use Rattle.tender.proofs.Records.{record-numbers, answered-each}
+
+-- a cell other than the start is at least a step away
+step-away : {g : Graph} {least most : ℕ} → Lawful g least most → {s v c : ℕ} → Least g s v c → (v ≡ s) ⊎ (least ≤ c)
+step-away {g} {least} law {s} {v} {c} x = go (x .way) (x .route .allowed) (x .route .arrives) (x .costs)
+  where
+    go : (ds : List ℕ) → T (walks g s ds) → ends g s ds ≡ v → costOf g s ds ≡ c → (v ≡ s) ⊎ (least ≤ c)
+    go [] w e k = inl (sym e)
+    go (d ∷ ds) w e k = inr (omega (arith, law .at-least s d (T-and (g .allowed s d) (walks g (g .to s d) ds) w .0)))
+
+-- an answer for which 01's table holds, to a question with a limit from 1 on
+module _ (f : Floor) (m : List ℕ) (q : Question) (l : List ℕ) (lawful : Lawful (graph f m) leastStep greatestStep) (is : IsL (graph f m) (q .start) l)
+    (some : 1 ≤ q .limit) where
+  some-cell : 1 ≤ length l
+  some-cell = let s = is .reachable (q .start) .1 ([], stay (graph f m) (q .start)) in omega (arith, s .1 .within)
+
+  settles-start : {r r′ : Rooms} (a : Answer) → Answers f m q l (numbersOf a) r r′ → numbersOf a .kind ≢ 0 → 1 ≤ numbersOf a .settled
+  settles-start (Answer.Refused n p) w k = absurd (k refl)
+  settles-start (Found s c d) w k = omega (arith, w .found-settled (w .found .0 refl))
+  settles-start (None s) w k = omega (arith, w .none-settled (w .none .0 refl), some-cell)
+  settles-start (Stopped s c) w k = omega (arith, w .stopped-settled (w .stopped .0 refl), some)
+
+  module _ {r r′ : Rooms} (n : AnswerNumbers) (w : Answers f m q l n r r′) (stop : n .kind ≡ 3) where
+    -- the cell at place 0 of L costs nothing to reach, and so it is the start: no later one is
+    not-again : At l (q .limit) (q .start) → {c : ℕ} → Least (graph f m) (q .start) (q .start) c → ⊥
+    not-again again {c} back =
+        let u = getD l 0 0 in
+        let front : At l 0 u = record { within = some-cell; cell = refl } in
+        let first = w .costs 0 u front (omega (arith, w .stopped-settled (w .stopped .0 stop), some)) in
+        let nothing = back .none-less [] (stay (graph f m) (q .start)) in
+        ⊎-elim (λ h. omega arith) (λ h. ⊎-elim (λ e. omega (arith, h .1)) (λ k. omega (arith, h .0, lawful .positive)) (step-away lawful first))
+        (is .sorted 0 (q .limit) u (q .start) _ c (omega (arith, some)) front again first back)
+
+    floor-away : leastStep ≤ n .number
+    floor-away =
+        let next = w .stopped-number (w .stopped .0 stop) in
+        ⊎-elim
+        (λ e. absurd (not-again (subst (λ (v : ℕ). At l (q .limit) v) e (next .1)) (subst (λ (v : ℕ). Least (graph f m) (q .start) v (n .number)) e (next .2))))
+        (λ h. h)
+        (step-away lawful (next .2))
+
+refusal-tells : (q : Question) (n p : ℕ) → Tells q (numbersOf (Answer.Refused n p))
+refusal-tells q n p = record { limit-0 = λ z. refl; settles = λ k. absurd (k refl); floor = λ k. absurd (omega arith) }
+
+searched-tells : {f : Floor} {m : List ℕ} {q : Question} {r : Rooms} {a : Answer} {r′ : Rooms} → Searched f m q r a r′ → Tells q (numbersOf a)
+searched-tells {q = q} (refused n p e b k) = rw b (refusal-tells q n p)
+searched-tells {f} {m} {q} {r} {a} (passed p x) =
+    let some = some-limit f m q r p in
+    let t = table-holds x p in
+    record {
+      limit-0 = λ z. absurd (omega (arith, some));
+      settles = settles-start f m q (t .0) (law x p) (t .1) some a (t .3);
+      floor = floor-away f m q (t .0) (law x p) (t .1) some (numbersOf a) (t .3);
+    }
+
+-- a question record: 13 is a refusal too
+asked-tells : {f : Floor} {m question : List ℕ} {r : Rooms} {a : Answer} {r′ : Rooms} → Asked f m question r a r′ → Tells (questionIn question) (numbersOf a)
+asked-tells {question = question} (no-zeros z e k) = rw e (refusal-tells (questionIn question) 13 0)
+asked-tells (searched z x) = searched-tells x
+
+pub limits-from-one : LimitsFromOne
+limits-from-one = record {
+  passed = some-limit;
+  search = λ f m q r a r′ x. searched-tells x;
+  call = λ f m q r n r′ x. rw (x .numbers) (searched-tells (x .searched));
+  records = λ f m bytes r k bytes′ r′ x i h.
+      let y = answered-each f m (wholeRecords bytes) bytes r bytes′ r′ (x .records) i h in
+      (numbersOf (y .answer), y .leaves ∙ record-numbers (y .answer), asked-tells (y .asked));
+}
