@@ -1,4 +1,4 @@
-"""A handful of calls, one of each form, with replies written out from the text of 01 as plainly as can be: least costs by relaxing every step until
+"""A handful of calls, one of each form, with replies written out from the text of 01 and R-2 as plainly as can be: least costs by relaxing every step until
 nothing changes, the claims by their rules. Here it is that a call's parts are read in their order and that a reply has all of its own.
 """
 import wire
@@ -87,9 +87,10 @@ def search(made, floor, start, goal, limit, more):
     made.call(wire.SEARCH, "plain", answer, shape(floor), start, goal, limit, map=(size, floor.cells), **rooms)
 
 
-def refused_search(made, floor, number, place):
-    rooms = {"costs": (2, wire.OLD_COST), "work": (3, wire.OLD_WORK), "route": (4, wire.OLD_BYTE)}
-    made.call(wire.SEARCH, "plain, refused", lambda **_: [0, number, place], shape(floor), 0, 0, 9, map=(len(floor.cells), floor.cells), **rooms)
+def refused_search(made, floor, limit, lengths, number, place):
+    """A search in rooms of these lengths, which stay as they are."""
+    rooms = dict(zip(("costs", "work", "route"), zip(lengths, (wire.OLD_COST, wire.OLD_WORK, wire.OLD_BYTE))))
+    made.call(wire.SEARCH, "plain, refused", lambda **_: [0, number, place], shape(floor), 0, 0, limit, map=(len(floor.cells), floor.cells), **rooms)
 
 
 def route_verdict(floor, start, goal, cost, route):
@@ -169,7 +170,10 @@ def add_calls(made):
     search(made, d, 0, 8, 9, 1)
     search(made, l, 0, 3, 4, 0)
     search(made, wide, 300, 5, MARK, 3)
-    refused_search(made, wrong, 3, 3)
+    search(made, a, 0, 3, 1, 1)
+    refused_search(made, wrong, 9, (2, 3, 4), 3, 3)
+    refused_search(made, a, 0, (6, 12, 6), 15, 0)
+    refused_search(made, a, 0, (6, 12, 5), 11, 0)
     route_claim(made, a, 0, 2, 280, [4, 2, 2, 0])
     route_claim(made, a, 0, 2, 281, [4, 2, 2, 0])
     route_claim(made, l, 0, 3, 99, [3])

@@ -1,8 +1,8 @@
 """Maps and question records for the desk, and what is due.
 
 How the expectation is produced: from the text of 01, "The program", with the references of the map text and of the searches.
-The answers to cases a to l are also held to the table of 01. All cases that are not listed one by one come from a generator
-with a fixed seed.
+The answers to cases a to l are also held to the table of 01, and to R-2 for h. All cases that are not listed one by one come
+from a generator with a fixed seed.
 """
 import random
 import struct
@@ -61,20 +61,20 @@ def answers(floor, records, costs, work, route):
 
 # ---- cases a to l ----------------------------------------------------------------------------------------------------
 
-# kind, settled, number, length
+# kind, refusal, settled, number, length
 ANSWERS_OF_01 = [
-    (1, 5, 280, 4),
-    (3, 4, 280, 0),
-    (1, 9, 198, 2),
-    (1, 9, 280, 4),
-    (1, 4, 700, 2),
-    (1, 5, 198, 2),
-    (2, 1, MARK, 0),
-    (3, 0, 0, 0),
-    (1, 1, 0, 0),
-    (1, 2, 630, 1),
-    (1, 2, 70, 1),
-    (2, 1, MARK, 0),
+    (1, 0, 5, 280, 4),
+    (3, 0, 4, 280, 0),
+    (1, 0, 9, 198, 2),
+    (1, 0, 9, 280, 4),
+    (1, 0, 4, 700, 2),
+    (1, 0, 5, 198, 2),
+    (2, 0, 1, MARK, 0),
+    (0, 15, 0, 0, 0),
+    (1, 0, 1, 0, 0),
+    (1, 0, 2, 630, 1),
+    (1, 0, 2, 70, 1),
+    (2, 0, 1, MARK, 0),
 ]
 
 
@@ -89,10 +89,10 @@ def cases_of_01():
     asked, answered = bytes.fromhex("00000000020000000500000008000000"), "01000000050000001801000004000000"
     assert fresh_answers(small, asked).hex() == answered
     yield small, asked, 16
-    for case, (kind, settled, number, length) in zip(searches.cases_of_01(), ANSWERS_OF_01, strict=True):
+    for case, numbers in zip(searches.cases_of_01(), ANSWERS_OF_01, strict=True):
         text = maptexts.written(case["width"], case["height"], case["cells"])
         record = question(case["start"], case["goal"], case["limit"], case["ways"])
-        assert fresh_answers(text, record) == struct.pack("<BBxxIII", kind, 0, settled, number, length)
+        assert fresh_answers(text, record) == struct.pack("<BBxxIII", *numbers)
         yield text, record, 16
 
 
@@ -147,16 +147,17 @@ def maps():
 def refused_questions():
     """On case a's map: each refusal alone, each pair of them, and all from one on; the lowest number wins, but 13 goes before all."""
     good = {"start": 0, "goal": 2, "limit": 5, "ways": 8, "zeros": b"\0\0\0"}
-    spoil = {4: {"ways": 5}, 5: {"start": 6}, 6: {"goal": 77}, 7: {"start": 1}, 8: {"goal": 1}, 13: {"zeros": b"\0\1\0"}}
+    spoil = {4: {"ways": 5}, 5: {"start": 6}, 6: {"goal": 77}, 7: {"start": 1}, 8: {"goal": 1}, 13: {"zeros": b"\0\1\0"}, 15: {"limit": 0}}
     for first in spoil:
         yield {**good, **spoil[first]}
         yield from ({**good, **spoil[second], **spoil[first]} for second in spoil if second > first)
         together = dict(good)
         for number in sorted(spoil, reverse=True):
             together.update(spoil[number] if number >= first else {})
-        yield from (together, {**together, "zeros": good["zeros"]}, {**together, "limit": 0}, {**together, "limit": MARK})
+        yield from (together, {**together, "zeros": good["zeros"]}, {**together, "limit": 5}, {**together, "limit": MARK})
     yield from ({**good, "ways": ways} for ways in (0, 1, 2, 3, 4, 6, 7, 8, 9, 12, 16, 72, 255))
     yield from ({**good, end: cell} for end in ("start", "goal") for cell in (0, 1, 5, 6, 7, 255, 256, 258, 65536, 16777216, MARK))
+    yield from ({**good, "limit": limit} for limit in (1, *searches.LOW_BYTE_0))
     yield from ({**good, "zeros": bytes(zeros)} for zeros in ([1, 0, 0], [0, 0, 1], [0, 0, 128], [128, 0, 0], [255, 255, 255], [8, 0, 0]))
 
 
@@ -173,7 +174,7 @@ def questions_refused():
 def in_pieces():
     """The same questions in pieces of every size, whole and with a broken last record; files that hold no whole record."""
     text = maptexts.text_of([".@.", "..."])
-    asked = [question(0, 2, 5, 8), question(0, 2, 4, 8), question(1, 2, 5, 8), question(0, 2, 5, 8, b"\0\0\1"), question(3, 5, MARK, 4)]
+    asked = [question(0, 2, 5, 8), question(0, 2, 4, 8), question(1, 2, 5, 8), question(0, 2, 5, 8, b"\0\0\1"), question(0, 2, 0, 8), question(3, 5, MARK, 4)]
     whole = b"".join(asked)
     for size in PIECES:
         for broken in (0, 1, 8, 15):
@@ -211,8 +212,8 @@ def maze(generator, width, height):
 
 
 def limits_for(width, height, ways, cells, start, goal):
-    """0 and 1, those around the number of reachable cells, those around the goal's place among them, and the greatest."""
-    _, least = searches.known_costs(searches.case_of(width, height, ways, cells, start, goal, 0))
+    """0, which is refused, and 1, those around the number of reachable cells, those around the goal's place among them, and the greatest."""
+    _, least = searches.known_costs(searches.case_of(width, height, ways, cells, start, goal, 1))
     reached = sorted((least[cell], cell) for cell in range(len(cells)) if least[cell] is not None)
     n = len(reached)
     limits = {0, 1, n - 1, n, n + 1, MARK}
@@ -320,6 +321,26 @@ def add_case(made, turn, text, records, piece):
         rooms = {name: (length, ()) for name, (length, _) in rooms.items()}
 
 
+def refused_floors():
+    """On small floors the refusals that no question to the program meets, since its map was read and its rooms are long enough; and none, in rooms that just
+    suffice: number, width, height, cells, and the lengths of the rooms."""
+    cells, enough = [1, 0, 1, 1, 1, 1], (6, 12, 6)
+    yield from ((1, 257, 1, [1] * 257, (257, 514, 257)), (2, 3, 2, cells[:5], enough), (3, 3, 2, [*cells[:5], 10], enough))
+    yield from ((9, 3, 2, cells, (5, 12, 6)), (10, 3, 2, cells, (6, 11, 6)), (11, 3, 2, cells, (6, 12, 5)), (0, 3, 2, cells, enough))
+
+
+def add_refused(made):
+    """Limit 0 beside each of them, with 13 and without; then in rooms that hold what a question with a limit has left, if it was answered."""
+    limit_0, limit_5 = question(0, 2, 0, 8), question(0, 2, 5, 8)
+    for number, width, height, cells, lengths in refused_floors():
+        rooms = dict(zip(("costs", "work", "route"), zip(lengths, (wire.OLD_COST, wire.OLD_WORK, wire.OLD_BYTE))))
+        due = lambda costs, work, route, text, **_: answer_in_place((width, height, cells), costs, work, route, text)
+        for records, numbers in ((limit_0 + question(0, 2, 0, 8, b"\0\0\1"), [number or 15, 13]), (limit_5 + limit_0, [number, number or 15])):
+            about = "records that are refused as %s, a floor of %d by %d, rooms of %s" % (numbers, width, height, lengths)
+            made.call(wire.ANSWER_RECORDS, about, due, (width, height, 8), map=(len(cells), cells), text=(len(records), records), **rooms)
+            assert made.rooms["text"][1 : len(records) : RECORD] == numbers, about
+
+
 TURNS = 60  # turns of the program, each with a buffer that has more bytes in it than have arrived
 
 
@@ -348,4 +369,5 @@ def add_calls(made):
     cases = [*cases_of_01(), *maps(), *questions_refused(), *in_pieces(), *asked_floors()]
     for turn, case in enumerate(cases):
         add_case(made, turn, *case)
+    add_refused(made)
     add_turns(made)

@@ -1,10 +1,10 @@
 """Questions to the search, and what it must answer and leave.
 
-How the expectation is produced: from the text of 01 alone, as plainly as it can be written, and with nothing of the
-search's own code or method. The least costs come from relaxing every step of the map again and again, in sweeps in both
-directions, until a sweep changes nothing. L is the reachable cells, sorted by cost and cell number; answer, settled count
-and rooms are read off L. The route is walked back from the goal: of the steps that give a cell its cost the one with the
-lowest direction is the last. All cases that are not listed one by one come from a generator with a fixed seed.
+How the expectation is produced: from the text of 01, and of R-2 about limit 0, alone, as plainly as it can be written, and
+with nothing of the search's own code or method. The least costs come from relaxing every step of the map again and again, in
+sweeps in both directions, until a sweep changes nothing. L is the reachable cells, sorted by cost and cell number; answer,
+settled count and rooms are read off L. The route is walked back from the goal: of the steps that give a cell its cost the one
+with the lowest direction is the last. All cases that are not listed one by one come from a generator with a fixed seed.
 """
 import random
 
@@ -117,6 +117,8 @@ def refusal(case):
         return 10, 0
     if case["route"] < size:
         return 11, 0
+    if case["limit"] == 0:
+        return 15, 0
     return None
 
 
@@ -229,6 +231,50 @@ def later_refusals():
     return cases
 
 
+# The goal is the start, beside it, farther, or not reached: map, start, goal, and kind, settled, number and length at limit 1.
+LIMIT_1 = [
+    (".", 0, 0, (1, 1, 0, 0)),
+    ("9", 0, 0, (1, 1, 0, 0)),
+    (".@./...", 5, 5, (1, 1, 0, 0)),
+    (".@./...", 0, 3, (3, 1, 70, 0)),
+    (".@./...", 0, 2, (3, 1, 70, 0)),
+    ("2.", 1, 0, (3, 1, 140, 0)),
+    (".@9/@@8", 5, 2, (3, 1, 630, 0)),
+    (".@.", 0, 2, (2, 1, MARK, 0)),
+    (".@/@.", 0, 3, (2, 1, MARK, 0)),
+]
+
+# Limits that are not 0 and whose lowest byte is.
+LOW_BYTE_0 = (256, 65536, 16777216, 2147483648)
+
+
+def least_limits():
+    """Limit 0, which is refused whatever the search would answer, and limit 1, which is taken; on a floor of the greatest sides too."""
+    side, size = 256, 65536
+    cases = [case_of(side, side, 8, [1] * size, 0, size - 1, limit) for limit in (0, 1)]
+    cases += [drawn(".@./...", 8, 0, 2, limit) for limit in LOW_BYTE_0]
+    for picture, start, goal, (kind, *three) in LIMIT_1:
+        for ways in (4, 8):
+            for limit, due in ((0, [0, 15, 0, 0, 0, 0]), (1, [kind, 0, 0, *three])):
+                case = drawn(picture, ways, start, goal, limit)
+                assert answer(case, *([0] * case[name] for name in ("costs", "work", "route"))) == due, case
+                cases.append(case)
+    return cases
+
+
+def refused_before_15():
+    """Limit 0 beside 1, 2 or 3 and nothing else, which `joint_refusals` has not got."""
+    row = [1] * 257
+    return [
+        case_of(257, 1, 8, row, 0, 256, 0),
+        case_of(1, 257, 8, row, 256, 0, 0),
+        case_of(3, 2, 8, [1] * 5, 0, 2, 0),
+        case_of(3, 2, 8, [1] * 7, 0, 2, 0),
+        drawn(".../...", 8, 0, 2, 0, cells=bytes([1, 1, 1, 1, 1, 10])),
+        drawn(".../...", 8, 0, 2, 0, cells=bytes([10, 1, 1, 1, 1, 1])),
+    ]
+
+
 def joint_refusals():
     """Several refusals at once: the lowest number wins. Each pair, and all from a number on."""
     spoil = {
@@ -240,15 +286,16 @@ def joint_refusals():
         9: {"costs": 5},
         10: {"work": 11},
         11: {"route": 5},
+        15: {"limit": 0},
     }
     good, bad = drawn(".@./...", 8, 0, 2, 5), bytes([1, 0, 1, 12, 1, 99])
     cases = []
     for first in spoil:
-        cases += [{**good, **spoil[second], **spoil[first]} for second in range(first + 1, 12)]
+        cases += [{**good, **spoil[second], **spoil[first]} for second in spoil if second > first]
     for first in spoil:
         spoiled = dict(good)
-        for number in range(11, first - 1, -1):
-            spoiled.update(spoil[number])
+        for number in sorted(spoil, reverse=True):
+            spoiled.update(spoil[number] if number >= first else {})
         cases.append(spoiled)
         cases.append({**spoiled, "cells": bad})
         cases.append({**spoiled, "cells": bad[:5]})
@@ -258,7 +305,7 @@ def joint_refusals():
 
 
 def every_limit():
-    """All limits from 0 to n + 1 on small floors, with goals that are reached and that are not."""
+    """All limits from 0, which is refused, to n + 1 on small floors, with goals that are reached and that are not."""
     asked = [
         ("1234/5@67/8912", 0, [0, 7, 11]),
         ("...@./...@./9.2@./..1@.", 6, [0, 17, 4, 19]),
@@ -278,7 +325,7 @@ def every_limit():
 
 def longer_rooms():
     cases = []
-    for limit in (0, 3, 4, 5, MARK):
+    for limit in (0, 1, 3, 4, 5, MARK):
         for ways in (4, 8):
             cases.append(drawn(".@./...", ways, 0, 2, limit, costs=11, work=19, route=23))
             cases.append(drawn("..@./.9@.", ways, 0, 3, limit, costs=9, work=17, route=9))
@@ -310,7 +357,7 @@ def equal_costs():
     side = 15
     middle = side * side // 2
     for ways in (4, 8):
-        for limit in list(range(0, 30)) + list(range(30, 227, 7)) + [224, 225, 226]:
+        for limit in list(range(1, 30)) + list(range(30, 227, 7)) + [224, 225, 226]:
             cases.append(case_of(side, side, ways, [1] * (side * side), middle, side * side - 1, limit))
     # all cells around the start enter at the same cost, whatever their direction
     ring = [2, 1, 2, 1, 1, 1, 2, 1, 2]
@@ -374,8 +421,8 @@ def large_floors():
 
 
 def all_cases():
-    cases = cases_of_01() + single_refusals() + joint_refusals() + every_limit() + longer_rooms() + rows_and_columns()
-    cases += equal_costs() + random_floors(random.Random(20), 400) + large_floors()
+    cases = cases_of_01() + single_refusals() + least_limits() + refused_before_15() + joint_refusals() + every_limit() + longer_rooms()
+    cases += rows_and_columns() + equal_costs() + random_floors(random.Random(20), 400) + large_floors()
     return cases
 
 
