@@ -68,11 +68,19 @@ def asked_of(generator, width, height, count):
         yield question(start, goal, limit, generator.choice([4, 8, 8, generator.randrange(256)]), zeros)
 
 
+def least_limits():
+    """On case a's map limit 0 and limit 1 in turn, without 13 and with it, between ends that are the same, neighbours, farther, blocked or off the map."""
+    for start, goal in ((0, 0), (0, 3), (0, 2), (1, 2), (0, 1), (6, 2), (0, 6)):
+        for limit in (0, 1):
+            yield from (question(start, goal, limit, 8, zeros) for zeros in (b"\0\0\0", b"\0\0\1"))
+
+
 def floors():
     generator = random.Random(64)
     yield maptexts.text_of([".@."]), [question(0, 2, 1, 8), question(0, 2, 0, 8), question(0, 2, MARK, 4)]
     yield maptexts.text_of([".@", "@."]), [question(0, 3, 4, 8)]
     yield maptexts.text_of(["."]), [question(0, 0, limit, 8) for limit in (0, 1, MARK)]
+    yield maptexts.text_of([".@.", "..."]), list(least_limits())
     for width, height, count in ((1, 1, 20), (7, 5, 300), (64, 1, 100), (1, 64, 100), (64, 64, 40), (63, 64, 20)):
         picture = ["".join(generator.choice("..G123456789@TO") for _ in range(width)) for _ in range(height)]
         yield maptexts.text_of(picture), list(asked_of(generator, width, height, count))
@@ -125,13 +133,13 @@ def main():
     print(f"planner: {count} questions, kinds and refusals {' '.join('%d/%d' % kind for kind in sorted(kinds))}")
 
     text = maptexts.text_of([".@.", "..."])
-    asked = [question(0, 2, 5, 8), question(0, 2, 4, 8), question(1, 2, 5, 8), question(0, 2, 5, 8, b"\0\0\1"), question(3, 5, MARK, 4)]
+    asked = [question(0, 2, 5, 8), question(0, 2, 4, 8), question(1, 2, 5, 8), question(0, 2, 5, 8, b"\0\0\1"), question(0, 2, 0, 8), question(3, 5, MARK, 4)]
     records = b"".join(asked) + asked[0][:9]
     for size in (1, 3, 7, 16, 17):
         in_folder(text, lambda folder, size=size: dribble(folder, text, records, size))
     many = b"".join(asked) * 5000
     in_folder(text, lambda folder: compare("much input", run(folder, many + records, broken_line(records)), b"".join([output(text, b"".join(asked))] * 5000) + output(text, records)))
-    print("planner: pieces of 1, 3, 7, 16 and 17 bytes, 25005 questions at once")
+    print(f"planner: pieces of 1, 3, 7, 16 and 17 bytes, {len(many + records) // RECORD} questions at once")
 
 
 main()

@@ -1,8 +1,8 @@
 #!/usr/bin/env python3
 """Makes the program's test: its map (crates/planner/data/floor.map), question records (stdin) and the answers due (stdout).
 
-How the expectation is produced: by the reference of the desk (tests/calls/records.py), which follows 01, "The program". Nothing
-comes from the program or its libraries.
+How the expectation is produced: by the reference of the desk (tests/calls/records.py), which follows 01, "The program", and R-2.
+Nothing comes from the program or its libraries.
 
     expected.py FOLDER      writes FOLDER/floor.map, FOLDER/stdin and FOLDER/stdout, and prints how many questions there are
 """
@@ -31,9 +31,11 @@ def questions():
                 for ways in (8, 4):
                     yield question(start, goal, limit, ways)
     for ways in (0, 1, 5, 6, 7, 9, 12, 255):
-        yield question(0, 2, 5, ways)
+        for limit in (5, 0):
+            yield question(0, 2, limit, ways)
     for zeros in (b"\1\0\0", b"\0\1\0", b"\0\0\1", b"\0\0\x80", b"\xff\xff\xff"):
         yield question(0, 2, 5, 8, zeros)
+        yield question(0, 2, 0, 8, zeros)
         yield question(1, 7, 0, 3, zeros)
     yield question(0, 2, 5, 8)
 
