@@ -1,5 +1,5 @@
-//! The floors to try of 01, with the answers that 01 gives, and one of them as an entry of R-1's log: the plain planner is held against these
-//! before it is compared with anything.
+//! The floors to try of 01, with the answers that 01 gives, and R-2 for case h, and one of them as an entry of R-1's log: the plain planner is
+//! held against these before it is compared with anything.
 
 use crate::calls::{Call, What};
 use crate::claims::{check_route, check_table, RouteVerdict, TableVerdict};
@@ -27,6 +27,10 @@ fn found(settled: u64, cost: u64, length: u64) -> Answer {
     }
 }
 
+fn refused(number: u32) -> Answer {
+    Answer::Refused(Refusal { number, place: 0 })
+}
+
 #[rustfmt::skip]
 fn cases() -> Vec<Case> {
     let none = |settled| Answer::None { settled };
@@ -40,7 +44,7 @@ fn cases() -> Vec<Case> {
         Case { name: 'e', map: "../.9", ways: 8, start: 0, goal: 3, limit: 4, answer: found(4, 700, 2), route: &[4, 2] },
         Case { name: 'f', map: ".9./...", ways: 8, start: 0, goal: 2, limit: 6, answer: found(5, 198, 2), route: &[3, 1] },
         Case { name: 'g', map: ".@.", ways: 8, start: 0, goal: 2, limit: 1, answer: none(1), route: &[] },
-        Case { name: 'h', map: ".@.", ways: 8, start: 0, goal: 2, limit: 0, answer: stopped(0, 0), route: &[] },
+        Case { name: 'h', map: ".@.", ways: 8, start: 0, goal: 2, limit: 0, answer: refused(15), route: &[] },
         Case { name: 'i', map: ".", ways: 8, start: 0, goal: 0, limit: 1, answer: found(1, 0, 0), route: &[] },
         Case { name: 'j', map: ".9", ways: 8, start: 0, goal: 1, limit: 2, answer: found(2, 630, 1), route: &[2] },
         Case { name: 'k', map: ".9", ways: 8, start: 1, goal: 0, limit: 2, answer: found(2, 70, 1), route: &[6] },
@@ -121,7 +125,6 @@ fn refused_or_taken() -> Vec<Call> {
     let mut ten = drawn(What::Search, "9", 8, 0, 0, 1);
     ten.map[0] = 10;
     let blocked = drawn(What::Search, "@", 8, 0, 0, 1);
-    let refused = |number| Answer::Refused(Refusal { number, place: 0 });
     assert_eq!(searched(&row(256)).0, found(1, 0, 0));
     assert_eq!(searched(&row(257)).0, refused(1));
     assert_eq!(searched(&ten).0, refused(3));

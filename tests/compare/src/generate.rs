@@ -1,4 +1,4 @@
-//! Random calls and questions: mostly good ones, and wild ones of every kind that 01 refuses.
+//! Random calls and questions: mostly good ones, and wild ones of every kind that 01 and R-2 refuse.
 
 use crate::calls::{Call, What};
 use crate::claims::{check_table, TableVerdict};
@@ -76,7 +76,7 @@ impl Scene {
         call
     }
 
-    /// Limits on both sides of every edge of 01's table of answers.
+    /// Limits on both sides of every edge of 01's table of answers, and 0, which R-2 refuses.
     pub fn limits(&self) -> Vec<u32> {
         let i = self.i.unwrap_or(self.n) as u32;
         let n = self.n as u32;
@@ -156,7 +156,7 @@ pub fn too_large(random: &mut Random) -> Call {
     call.map = vec![1; cells];
     match call.what {
         What::Search => {
-            call.limit = 300;
+            call.limit = random.one_of(&[0, 1, 300]);
             call.costs_room = cells;
             call.work_room = 2 * cells;
             call.byte_room = cells;

@@ -1,4 +1,4 @@
-//! The search of 01, from its definitions: least costs, the list L, the first route, and the table of answers.
+//! The search of 01 and 02's R-2, from their definitions: least costs, the list L, the first route, and the table of answers.
 
 use crate::floor::{refusal, Floor, Refusal, MARK};
 
@@ -114,11 +114,13 @@ fn lowest_last_step(floor: Floor, map: &[u8], costs: &[Option<u64>], cell: u64) 
     panic!("a cell with a least cost has a last step");
 }
 
+/// Refusals 1 to 11; then, of limit 0, R-2: "Refuse it as 15, checked after 11."
 fn refused_search(
     floor: Floor,
     map: &[u8],
     start: u64,
     goal: u64,
+    limit: u64,
     rooms: &Rooms,
 ) -> Option<Refusal> {
     if let Some(refused) = floor.refused_question(map, start, goal) {
@@ -133,6 +135,9 @@ fn refused_search(
     if (rooms.route.len() as u64) < floor.cells() {
         return refusal(11, 0);
     }
+    if limit == 0 {
+        return refusal(15, 0);
+    }
     None
 }
 
@@ -145,7 +150,7 @@ pub fn search(
     limit: u64,
     rooms: &mut Rooms,
 ) -> Answer {
-    if let Some(refused) = refused_search(floor, map, start, goal, rooms) {
+    if let Some(refused) = refused_search(floor, map, start, goal, limit, rooms) {
         return Answer::Refused(refused);
     }
     let costs = least_costs(floor, map, start);
