@@ -38,7 +38,7 @@ pub fn compare_all() -> Result<usize, String> {
     Ok(count)
 }
 
-/// The timed question of a floor, the way back, four ways, and limits about the goal's place and below it.
+/// The timed question of a floor, the way back, four ways, and limits about the goal's place and below it, down to 0.
 fn compare_floor(kind: Kind, side: usize) -> Result<usize, String> {
     let question = kind.question(side);
     let rooms = roomy(side * side);
@@ -101,36 +101,48 @@ struct Refused {
     rooms: Rooms,
 }
 
-/// A question for each refusal, with a later fault in it too wherever one fits, so that the order shows.
+fn refused_as(refusal: u64, place: u64, question: Question, lengths: (usize, usize, usize)) -> Refused {
+    let mut rooms = Rooms::with_lengths(lengths.0, lengths.1, lengths.2);
+    rooms.fill(OLD_NUMBER, OLD_BYTE);
+    Refused { refusal, place, question, rooms }
+}
+
+/// A question for each refusal, with a later fault in it too wherever one fits, so that the order shows; of 1 to 11 a second
+/// one, with limit 0.
 fn refused() -> Vec<Refused> {
     let sound = Question { width: 3, height: 2, ways: 8, map: vec![1, 0, 1, 1, 1, 1], start: 0, goal: 2, limit: 6 };
-    let with = |refusal, place, question, lengths: (usize, usize, usize)| {
-        let mut rooms = Rooms::with_lengths(lengths.0, lengths.1, lengths.2);
-        rooms.fill(OLD_NUMBER, OLD_BYTE);
-        Refused { refusal, place, question, rooms }
-    };
+    let limit_0 = Question { limit: 0, ..sound.clone() };
+    let mut cases = refused_before_15(sound);
+    cases.extend(refused_before_15(limit_0.clone()));
+    cases.push(refused_as(15, 0, limit_0, (6, 12, 6)));
+    cases
+}
+
+/// The refusals 1 to 11, in questions with the limit of one that none of them applies to.
+fn refused_before_15(sound: Question) -> Vec<Refused> {
     let (enough, nothing) = ((6, 12, 6), (0, 0, 0));
     let weighty = vec![1, 0, 1, 10, 255, 1];
     let twice_blocked = vec![0, 0, 0, 1, 1, 1];
     vec![
-        with(1, 0, Question { width: 0, ..sound.clone() }, enough),
-        with(1, 0, Question { height: 257, map: vec![10; 3 * 257], ..sound.clone() }, nothing),
-        with(1, 0, Question { width: u32::MAX, height: u32::MAX, ..sound.clone() }, nothing),
-        with(2, 0, Question { map: vec![10; 7], ..sound.clone() }, nothing),
-        with(2, 0, Question { map: vec![], ..sound.clone() }, nothing),
-        with(3, 3, Question { map: weighty, ways: 5, ..sound.clone() }, nothing),
-        with(4, 0, Question { ways: 6, start: 6, ..sound.clone() }, nothing),
-        with(5, 0, Question { start: 6, goal: 6, ..sound.clone() }, nothing),
-        with(6, 0, Question { start: 1, goal: u32::MAX, ..sound.clone() }, nothing),
-        with(7, 0, Question { map: twice_blocked, ..sound.clone() }, nothing),
-        with(8, 0, Question { goal: 1, ..sound.clone() }, nothing),
-        with(9, 0, sound.clone(), (5, 11, 5)),
-        with(10, 0, sound.clone(), (6, 11, 5)),
-        with(11, 0, sound, (6, 12, 5)),
+        refused_as(1, 0, Question { width: 0, ..sound.clone() }, enough),
+        refused_as(1, 0, Question { height: 257, map: vec![10; 3 * 257], ..sound.clone() }, nothing),
+        refused_as(1, 0, Question { width: u32::MAX, height: u32::MAX, ..sound.clone() }, nothing),
+        refused_as(2, 0, Question { map: vec![10; 7], ..sound.clone() }, nothing),
+        refused_as(2, 0, Question { map: vec![], ..sound.clone() }, nothing),
+        refused_as(3, 3, Question { map: weighty, ways: 5, ..sound.clone() }, nothing),
+        refused_as(4, 0, Question { ways: 6, start: 6, ..sound.clone() }, nothing),
+        refused_as(5, 0, Question { start: 6, goal: 6, ..sound.clone() }, nothing),
+        refused_as(6, 0, Question { start: 1, goal: u32::MAX, ..sound.clone() }, nothing),
+        refused_as(7, 0, Question { map: twice_blocked, ..sound.clone() }, nothing),
+        refused_as(8, 0, Question { goal: 1, ..sound.clone() }, nothing),
+        refused_as(9, 0, sound.clone(), (5, 11, 5)),
+        refused_as(10, 0, sound.clone(), (6, 11, 5)),
+        refused_as(11, 0, sound, (6, 12, 5)),
     ]
 }
 
-/// A small floor with any share of blocked cells. One in eight questions may be refused.
+/// A small floor with any share of blocked cells. One in eight questions may be refused as 3 to 11; one in eight has limit 0,
+/// and one in eight limit 1.
 fn random_question(random: &mut Random) -> (Question, Rooms) {
     let width = 1 + random.below(12);
     let height = 1 + random.below(12);
@@ -143,18 +155,22 @@ fn random_question(random: &mut Random) -> (Question, Rooms) {
     let (mut start, mut goal) = (random.below(cells), random.below(cells));
     let mut rooms = roomy(cells as usize);
     if random.below(8) == 0 {
-        match random.below(6) {
+        match random.below(7) {
             0 => map[start as usize] = 10,
             1 => ways = random.below(10),
             2 => start = random.below(2 * cells),
             3 => goal = random.below(2 * cells),
             4 => rooms.costs.truncate(random.below(cells + 1) as usize),
-            _ => rooms.work.truncate(random.below(2 * cells + 1) as usize),
+            5 => rooms.work.truncate(random.below(2 * cells + 1) as usize),
+            _ => rooms.route.truncate(random.below(cells + 1) as usize),
         }
     } else {
         map[start as usize] = 1;
         map[goal as usize] = 1;
     }
-    let limit = random.below(2 * cells);
+    let limit = match random.below(8) {
+        least @ 0..=1 => least,
+        _ => random.below(2 * cells),
+    };
     (Question { width, height, ways, map, start, goal, limit }, rooms)
 }

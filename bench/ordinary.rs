@@ -81,7 +81,7 @@ pub fn search(question: &Question, rooms: &mut Rooms) -> Answer {
     answer
 }
 
-/// The refusals 1 to 11: the lowest that applies.
+/// The refusals 1 to 11 and 15: the lowest that applies.
 fn refusal(question: &Question, rooms: &Rooms) -> Option<Answer> {
     let is_side = |n: u32| (1..=256).contains(&n);
     if !is_side(question.width) || !is_side(question.height) {
@@ -111,6 +111,8 @@ fn refusal(question: &Question, rooms: &Rooms) -> Option<Answer> {
         10
     } else if rooms.route.len() < cells {
         11
+    } else if question.limit == 0 {
+        15
     } else {
         return None;
     };

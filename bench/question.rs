@@ -12,7 +12,7 @@ pub struct Question {
     pub map: Vec<u8>,
     pub start: u32,
     pub goal: u32,
-    /// How many cells may be settled.
+    /// How many cells may be settled; 0 is refused.
     pub limit: u32,
 }
 
