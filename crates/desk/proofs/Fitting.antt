@@ -1,6 +1,5 @@
 -- Every number of an answer has room in its field: settled counts and routes are no longer than the floor has cells, costs are at most MARK, and a
 -- stopped search has settled as many cells as the question's limit, which came from four bytes.
-use mathlib.Core.Path.{_≡_, refl}
 use mathlib.Core.Bool.{_&&_}
 use mathlib.Core.List.{List}
 use Prim.Native.Nat.{ℕ, _+_, _≤_, _<_}
