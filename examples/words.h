@@ -26,6 +26,7 @@ static const char *in_words(uint64_t number)
     case FRADNUMBER_SHORT_WORK: return "the work room is too short";
     case FRADNUMBER_SHORT_ROUTE: return "the route room is too short";
     case FRADNUMBER_ROUTE_TOO_LONG: return "the route has as many steps as there are cells, or more";
+    case FRADNUMBER_ZERO_LIMIT: return "the limit is 0, and must be at least 1";
     case FRADNUMBER_BAD_TYPE_LINE: return "the first line is not `type octile`";
     case FRADNUMBER_BAD_HEIGHT_LINE: return "the second line is not `height` and a number from 1 to 256";
     case FRADNUMBER_BAD_WIDTH_LINE: return "the third line is not `width` and a number from 1 to 256";

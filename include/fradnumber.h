@@ -24,7 +24,7 @@ extern "C" {
  * be changed for, the minor one with calls, fields at a struct's end or numbers that are new, the patch with all else. It
  * changes here and nowhere else; docs/C.md says what each version brought.
  */
-#define FRADNUMBER_VERSION 10200
+#define FRADNUMBER_VERSION 10300
 
 /*
  * What is wrong: 0, a refusal (1 to 30, and of the route log 61 to 64), a cost table that is not right (40), or a fault in a
@@ -44,6 +44,7 @@ enum fradnumber_number {
     FRADNUMBER_SHORT_WORK = 10,        /* the work room is shorter than 2 times width times height */
     FRADNUMBER_SHORT_ROUTE = 11,       /* the route room is shorter than width times height */
     FRADNUMBER_ROUTE_TOO_LONG = 12,    /* the route is longer than width times height, less 1 */
+    FRADNUMBER_ZERO_LIMIT = 15,        /* the limit is 0, with which no cell can be settled */
     FRADNUMBER_BAD_TYPE_LINE = 21,     /* the first line is not `type octile`; place: its start, as for 22 to 24 */
     FRADNUMBER_BAD_HEIGHT_LINE = 22,   /* the second line is not `height` and a number from 1 to 256 */
     FRADNUMBER_BAD_WIDTH_LINE = 23,    /* the third line is not `width` and a number from 1 to 256 */
@@ -122,6 +123,9 @@ struct fradnumber_answer {
 
 /*
  * Searches a least-cost route, settling at most `limit` cells by cost and then by cell number.
+ *
+ * The limit is at least 1; with width * height or more, such as 4294967295, the search never stops at it. The refusals are 1
+ * to 11 and 15, and the lowest that applies is given.
  *
  * The rooms may be longer than needed and hold anything. Afterwards, unless the question was refused, the first
  * width * height costs are the least costs of the settled cells and FRADNUMBER_MARK for all others, the first

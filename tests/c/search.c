@@ -1,5 +1,5 @@
 /*
- * The search, called from C: the three kinds of answer, every refusal, and what is left in the rooms.
+ * The search, called from C: the three kinds of answer, every refusal, each next to limit 0 too, and what is left in the rooms.
  */
 #include "expect.h"
 
@@ -54,40 +54,67 @@ static struct fradnumber_answer on_a(uint32_t limit)
 static void answers(void)
 {
     static const uint32_t all[6] = {0, FRADNUMBER_MARK, 280, 70, 140, 210}, four[6] = {0, FRADNUMBER_MARK, FRADNUMBER_MARK, 70, 140, 210};
-    static const uint32_t alone[3] = {0, FRADNUMBER_MARK, FRADNUMBER_MARK};
-    static const uint8_t steps[4] = {4, 2, 2, 0}, row[3] = {1, 0, 1};
+    static const uint8_t steps[4] = {4, 2, 2, 0};
     expect("case a", on_a(5), FRADNUMBER_FOUND, 0, 0, 5, 280, 4);
     expect_rooms("case a", all, 6, 12, steps, 4);
     expect("case a, limit 2^32 - 1", on_a(4294967295u), FRADNUMBER_FOUND, 0, 0, 5, 280, 4);
     expect("case b", on_a(4), FRADNUMBER_STOPPED, 0, 0, 4, 280, 0);
     expect_rooms("case b", four, 6, 12, steps, 0);
-    fill_rooms();
-    expect("case g", fradnumber_search(3, 1, 8, row, 3, 0, 2, 1, costs, ROOM, work, ROOM, route, ROOM), FRADNUMBER_NONE, 0, 0, 1, FRADNUMBER_MARK, 0);
-    expect_rooms("case g", alone, 3, 6, steps, 0);
-    expect("case h", fradnumber_search(3, 1, 8, row, 3, 0, 2, 0, costs, ROOM, work, ROOM, route, ROOM), FRADNUMBER_STOPPED, 0, 0, 0, 0, 0);
 }
 
-static void refusals(void)
+/* Limit 1 settles the start and nothing else. */
+static void limit_one(void)
+{
+    static const uint32_t start[6] = {0, FRADNUMBER_MARK, FRADNUMBER_MARK, FRADNUMBER_MARK, FRADNUMBER_MARK, FRADNUMBER_MARK};
+    static const uint8_t row[3] = {1, 0, 1};
+    expect("case a, limit 1", on_a(1), FRADNUMBER_STOPPED, 0, 0, 1, 70, 0);
+    expect_rooms("case a, limit 1", start, 6, 12, route, 0);
+    fill_rooms();
+    expect("from 0 to 0, limit 1", fradnumber_search(3, 2, 8, a, 6, 0, 0, 1, costs, ROOM, work, ROOM, route, ROOM), FRADNUMBER_FOUND, 0, 0, 1, 0, 0);
+    expect_rooms("from 0 to 0, limit 1", start, 6, 12, route, 0);
+    fill_rooms();
+    expect("case g", fradnumber_search(3, 1, 8, row, 3, 0, 2, 1, costs, ROOM, work, ROOM, route, ROOM), FRADNUMBER_NONE, 0, 0, 1, FRADNUMBER_MARK, 0);
+    expect_rooms("case g", start, 3, 6, route, 0);
+}
+
+/* Limit 0 is refused, with rooms that are just long enough too, and whatever a higher limit would find. */
+static void limit_zero(void)
+{
+    static const uint8_t row[3] = {1, 0, 1};
+    expect("case a, limit 0", on_a(0), FRADNUMBER_REFUSED, FRADNUMBER_ZERO_LIMIT, 0, 0, 0, 0);
+    expect("15, from 0 to 0", fradnumber_search(3, 2, 8, a, 6, 0, 0, 0, costs, ROOM, work, ROOM, route, ROOM), 0, 15, 0, 0, 0, 0);
+    expect("15, least rooms", fradnumber_search(3, 2, 4, a, 6, 5, 3, 0, costs, 6, work, 12, route, 6), 0, 15, 0, 0, 0, 0);
+    expect("case h", fradnumber_search(3, 1, 8, row, 3, 0, 2, 0, costs, ROOM, work, ROOM, route, ROOM), 0, 15, 0, 0, 0, 0);
+    expect_rooms("limit 0", costs, 0, 0, route, 0);
+}
+
+/* 1 to 11 with any limit: 15 comes last. */
+static void refusals(uint32_t limit)
 {
     static const uint8_t heavy[6] = {1, 1, 1, 10, 1, 11}, barred[6] = {0, 1, 1, 1, 1, 0};
+    int before = wrong;
     fill_rooms();
-    expect("1", fradnumber_search(0, 2, 8, a, 6, 0, 2, 5, costs, ROOM, work, ROOM, route, ROOM), 0, 1, 0, 0, 0, 0);
-    expect("2", fradnumber_search(3, 2, 8, 0, 0, 0, 2, 5, costs, ROOM, work, ROOM, route, ROOM), 0, 2, 0, 0, 0, 0);
-    expect("3", fradnumber_search(3, 2, 8, heavy, 6, 0, 2, 5, costs, ROOM, work, ROOM, route, ROOM), 0, 3, 3, 0, 0, 0);
-    expect("4", fradnumber_search(3, 2, 264, a, 6, 0, 2, 5, costs, ROOM, work, ROOM, route, ROOM), 0, 4, 0, 0, 0, 0);
-    expect("5", fradnumber_search(3, 2, 8, a, 6, 6, 6, 5, costs, ROOM, work, ROOM, route, ROOM), 0, 5, 0, 0, 0, 0);
-    expect("6", fradnumber_search(3, 2, 8, a, 6, 1, 4294967295u, 5, costs, ROOM, work, ROOM, route, ROOM), 0, 6, 0, 0, 0, 0);
-    expect("7", fradnumber_search(3, 2, 8, barred, 6, 0, 5, 5, costs, ROOM, work, ROOM, route, ROOM), 0, 7, 0, 0, 0, 0);
-    expect("8", fradnumber_search(3, 2, 8, a, 6, 0, 1, 5, costs, ROOM, work, ROOM, route, ROOM), 0, 8, 0, 0, 0, 0);
-    expect("9", fradnumber_search(3, 2, 8, a, 6, 0, 2, 5, costs, 5, work, 0, route, 0), 0, 9, 0, 0, 0, 0);
-    expect("10", fradnumber_search(3, 2, 8, a, 6, 0, 2, 5, costs, 6, work, 11, 0, 0), 0, 10, 0, 0, 0, 0);
-    expect("11", fradnumber_search(3, 2, 8, a, 6, 0, 2, 5, costs, 6, work, 12, route, 5), 0, 11, 0, 0, 0, 0);
+    expect("1", fradnumber_search(0, 2, 8, a, 6, 0, 2, limit, costs, ROOM, work, ROOM, route, ROOM), 0, 1, 0, 0, 0, 0);
+    expect("2", fradnumber_search(3, 2, 8, 0, 0, 0, 2, limit, costs, ROOM, work, ROOM, route, ROOM), 0, 2, 0, 0, 0, 0);
+    expect("3", fradnumber_search(3, 2, 8, heavy, 6, 0, 2, limit, costs, ROOM, work, ROOM, route, ROOM), 0, 3, 3, 0, 0, 0);
+    expect("4", fradnumber_search(3, 2, 264, a, 6, 0, 2, limit, costs, ROOM, work, ROOM, route, ROOM), 0, 4, 0, 0, 0, 0);
+    expect("5", fradnumber_search(3, 2, 8, a, 6, 6, 6, limit, costs, ROOM, work, ROOM, route, ROOM), 0, 5, 0, 0, 0, 0);
+    expect("6", fradnumber_search(3, 2, 8, a, 6, 1, 4294967295u, limit, costs, ROOM, work, ROOM, route, ROOM), 0, 6, 0, 0, 0, 0);
+    expect("7", fradnumber_search(3, 2, 8, barred, 6, 0, 5, limit, costs, ROOM, work, ROOM, route, ROOM), 0, 7, 0, 0, 0, 0);
+    expect("8", fradnumber_search(3, 2, 8, a, 6, 0, 1, limit, costs, ROOM, work, ROOM, route, ROOM), 0, 8, 0, 0, 0, 0);
+    expect("9", fradnumber_search(3, 2, 8, a, 6, 0, 2, limit, costs, 5, work, 0, route, 0), 0, 9, 0, 0, 0, 0);
+    expect("10", fradnumber_search(3, 2, 8, a, 6, 0, 2, limit, costs, 6, work, 11, 0, 0), 0, 10, 0, 0, 0, 0);
+    expect("11", fradnumber_search(3, 2, 8, a, 6, 0, 2, limit, costs, 6, work, 12, route, 5), 0, 11, 0, 0, 0, 0);
     expect_rooms("refusals", costs, 0, 0, route, 0);
+    if (wrong != before) printf("that was with limit %lu\n", (unsigned long)limit);
 }
 
 int main(void)
 {
     answers();
-    refusals();
+    limit_one();
+    limit_zero();
+    refusals(5);
+    refusals(0);
     return end_of_test("search");
 }
