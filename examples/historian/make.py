@@ -1,6 +1,6 @@
 """Writes furnace.log to standard output: a route log of the furnace hall, laid out by hand from docs/MANUAL.md, "The route log".
 
-No part of the planner is asked. The first six entries are answers that examples/halls/furnace.answers has too; then come two of planners that keep other
+No part of the planner is asked. The first seven entries are answers that examples/halls/furnace.answers has too; then come two of planners that keep other
 rules, and an entry that breaks off.
 """
 import struct
@@ -32,6 +32,7 @@ log = [
     entry(cell(24, 15), cell(24, 15), 4096, 8, FOUND, 1, 0),
     entry(cell(10, 4), cell(24, 15), 4096, 8, REFUSED, 0, 0, refusal=7),
     entry(*row, 4096, 8, REFUSED, 0, 0, refusal=13, after=b"\0\0\1"),
+    entry(*row, 0, 8, REFUSED, 0, 0, refusal=15),
     entry(*row, 4096, 8, FOUND, 41, 2800, 40 * "2"),  # drops the surcharge of each warm cell
     entry(cell(3, 11), cell(4, 10), 4096, 8, FOUND, 4, 99, "1"),  # cuts the corner of the shield
     walkway[: 32 + 20],
