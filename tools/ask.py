@@ -22,7 +22,7 @@ try:
     import re
     import sys
 
-    from asking import questions, reading, replaying
+    from asking import questions, reading, replaying, words
     from asking.names import visible
     from asking.output import Output, complain
     from asking.programs import LARGEST, ROOT, Calls, Trouble, clean_up, read_text
@@ -47,6 +47,7 @@ one question
   over straight and over diagonal steps; none; stopped, when the limit of settled cells came before the goal, with the
   floor: no route to the goal costs less; refused, with the reason. The picture shows the floor, the settled cells by
   cost, and the route. It needs 6 columns more than the map is wide. For negative numbers write --from=-1,5.
+  --limit is at least 1: with 0 nothing can be settled, and it is refused. Without it the whole map is searched.
 
 a claimed route
   ./run MAP --from x,y --to x,y --check ROUTE --cost N
@@ -59,9 +60,10 @@ all least costs
 
 replay
   ./run MAP --replay QUESTIONS [--answers FILE]
-  QUESTIONS holds records of 16 bytes: start, goal and limit (4 bytes each, lowest first, cells as y * width + x), ways
-  (1 byte), three zeros; - is standard input. Each is answered as soon as it is read. The file of --answers holds records
-  of 16 bytes as the planner writes them; each that is not the proved answer is said, with its bytes.
+  QUESTIONS holds records of 16 bytes: start, goal and limit (4 bytes each, lowest first; cells as y * width + x, a limit of
+  at least 1, 4294967295 for none), ways (1 byte), three zeros; - is standard input. Each is answered as soon as it is read.
+  The file of --answers holds records of 16 bytes as the planner writes them; each that is not the proved answer is said,
+  with its bytes.
 
 route log
   ./run MAP --from x,y --to x,y --log FILE
@@ -100,10 +102,17 @@ def cell_argument(text):
     return int(match[1]), int(match[2])
 
 
-def number_argument(text):
+def number_argument(text, least=0):
     if not re.fullmatch(r"[0-9]{1,10}", text) or int(text) > LARGEST:
-        raise argparse.ArgumentTypeError(f"that is a whole number from 0 to {LARGEST}, not {visible(text)}")
+        raise argparse.ArgumentTypeError(f"that is a whole number from {least} to {LARGEST}, not {visible(text)}")
     return int(text)
+
+
+def limit_argument(text):
+    """A limit; 0 is for the planner to refuse."""
+    if not text.strip():
+        raise argparse.ArgumentTypeError(words.EMPTY_LIMIT)
+    return number_argument(text, 1)
 
 
 def route_argument(text):
@@ -117,8 +126,10 @@ class Parser(argparse.ArgumentParser):
     """Says wrong usage in one line after the usage, and shows no word of the caller's raw."""
 
     def error(self, message):
-        words = visible(message).replace("\\\\", "\\")
-        complain(f"{words}\n./run: './run --help' lists all words")
+        if message == "argument --limit: expected one argument":  # a script has handed on an empty limit without quotes
+            message = f"argument --limit: {words.EMPTY_LIMIT}"
+        shown = visible(message).replace("\\\\", "\\")
+        complain(f"{shown}\n./run: './run --help' lists all words")
         sys.exit(FAILED)
 
     def _print_message(self, message, file=None):
@@ -142,7 +153,7 @@ def parser():
     made.add_argument("--from", dest="start", metavar="x,y", type=cell_argument, help="where the cart stands")
     made.add_argument("--to", dest="goal", metavar="x,y", type=cell_argument, help="where it is to go")
     made.add_argument("--ways", type=int, choices=(4, 8), help="directions of a step (8)")
-    made.add_argument("--limit", metavar="N", type=number_argument, help="settle at most N cells (no limit)")
+    made.add_argument("--limit", metavar="N", type=limit_argument, help="settle at most N cells, N at least 1 (no limit)")
     made.add_argument("--check", metavar="ROUTE", type=route_argument, help="judge a claimed route, with --cost")
     made.add_argument("--cost", metavar="N", type=number_argument, help="the cost that is claimed for it")
     made.add_argument("--costs", action="store_true", help="all least costs from --from, as CSV")

@@ -7,9 +7,9 @@ from pathlib import Path
 
 import reference
 from common import HALLS, HERE, ROOT, bare, expect, expect_run, run, text_of, written
-from pictures import Svg, expect_picture, floor_due
+from pictures import Svg, expect_picture, expect_svg, floor_due
 
-# 01's cases: map, ways, from, to, limit, and what is said. The map's rows are parted by /.
+# 01's cases, h as R-2 has it: map, ways, from, to, limit, and what is said. The map's rows are parted by /.
 CASES = {
     "a": (".@./...", 8, "0,0", "2,0", 5, ["found at cost 280 in 4 steps; 5 cells settled", "true length 4 + 0√2 = 4.000", "route: 1 S, 2 E, 1 N"]),
     "b": (".@./...", 8, "0,0", "2,0", 4, ["stopped after 4 cells at floor 280"]),
@@ -18,7 +18,7 @@ CASES = {
     "e": ("../.9", 8, "0,0", "1,1", 4, ["found at cost 700 in 2 steps; 4 cells", "true length 10 + 0√2 = 10.000", "route: 1 S, 1 E"]),
     "f": (".9./...", 8, "0,0", "2,0", 6, ["found at cost 198 in 2 steps; 5 cells", "route: 1 SE, 1 NE"]),
     "g": (".@.", 8, "0,0", "2,0", 1, ["none: no route leads to the goal; 1 cell settled"]),
-    "h": (".@.", 8, "0,0", "2,0", 0, ["stopped after 0 cells at floor 0"]),
+    "h": (".@.", 8, "0,0", "2,0", 0, ["refused 15: the limit is 0 (left empty?), and must be at least 1", "leave out --limit to search the whole map"]),
     "i": (".", 8, "0,0", "0,0", 1, ["found at cost 0 in 0 steps; 1 cell settled", "true length 0 + 0√2 = 0.000", "B start and goal"]),
     "j": (".9", 8, "0,0", "1,0", 2, ["found at cost 630 in 1 step; 2 cells"]),
     "k": (".9", 8, "1,0", "0,0", 2, ["found at cost 70 in 1 step; 2 cells", "route: 1 W"]),
@@ -26,10 +26,15 @@ CASES = {
 }
 
 
+def status_due(said):
+    return 1 if said[0].startswith("refused") else 0
+
+
 def test_cases(folder):
     for name, (rows, ways, start, goal, limit, said) in CASES.items():
         path = written(folder, f"case_{name}.map", text_of(rows))
-        out = expect_run([path, "--from", start, "--to", goal, "--ways", ways, "--limit", limit], 0, [*said, "answered by the program and the library, alike"])
+        words = [path, "--from", start, "--to", goal, "--ways", ways, "--limit", limit]
+        out = expect_run(words, status_due(said), [*said, "answered by the program and the library, alike"])
         if any(piece.startswith("found") for piece in said):
             expect(f"case {name}: the claim", "checked as a claimed route: holds" in out, out)
     print(f"tools: the {len(CASES)} cases of the paper, in words")
@@ -61,7 +66,83 @@ def test_refused_questions(_):
     ):
         begin = [f"--from{start}"] if start.startswith("=") else ["--from", start]
         expect_run([hall, *begin, "--to", goal], 1, said)
-    print("tools: questions refused as 5 to 8")
+        told = json.loads(expect_run([hall, *begin, "--to", goal, "--limit", "0", "--json"], 1))
+        advice = "on this map x goes from 0 to 47 and y from 0 to 23" if told["refusal"] in (5, 6) else None
+        expect(f"{said[0]}, with limit 0 too", said[0] == f"refused {told['refusal']}: {told['why']}" and told.get("advice") == advice, told)
+    print("tools: questions refused as 5 to 8, with limit 0 too")
+
+
+def limits(rows, start, goal):
+    """The limits at which answers change: the least, and those around the goal's place in L and around its end; and the greatest."""
+    costs = reference.least_costs(rows, 8, start)
+    listed = sorted(costs, key=lambda cell: (costs[cell], cell))
+    around = {len(listed), *([listed.index(goal)] if goal in costs else [])}
+    return sorted({0, 1, 4294967295, *(max(near + more, 0) for near in around for more in (-1, 0, 1))})
+
+
+def test_limits(folder):
+    """Answers at the limits where they change; those to 0 and 1 asked one by one too, in words and as objects."""
+    count = 0
+    for text, start, goal in (
+        (".@./...", 0, 2), ("..", 0, 1), (".@.", 0, 2), (".", 0, 0), ("...", 1, 1), ("9.2/.3.", 3, 2), ("." * 65, 0, 64),
+    ):
+        path = written(folder, "limits.map", text_of(text))
+        rows = reference.rows_of(path.read_bytes())
+        ends = [word for name, cell in (("--from", start), ("--to", goal)) for word in (name, f"{cell % len(rows[0])},{cell // len(rows[0])}")]
+        asked = [struct.pack("<IIIB3x", start, goal, limit, 8) for limit in limits(rows, start, goal)]
+        due = [reference.answer(path.read_bytes(), record) for record in asked]
+        replayed = [path, "--replay", written(folder, "q", b"".join(asked)), "--answers", written(folder, "a", b"".join(due))]
+        expect_run(replayed, 0, [f"{len(asked)} questions answered; 0 given answers differ"])
+        count += len(asked)
+        for limit, answered in enumerate(due[:2]):
+            kind, number, settled, returned, _ = struct.unpack("<BBxxIII", answered)
+            words = [path, *ends, "--limit", limit]
+            said = ("refused 15: ", f"found at cost {returned} in 0 steps; 1 cell ", "none: ", f"stopped after 1 cell at floor {returned}: ")[kind]
+            expect_run([*words, "--quiet"], 0 if kind else 1, [f"8 ways, limit {limit}\n{said}"])
+            told = json.loads(expect_run([*words, "--json"], 0 if kind else 1))
+            shown = told["kind"], told.get("refusal", 0), told.get("settled", 0), told["limit"]
+            expect(f"{text} from {start} to {goal}, limit {limit}", shown == (("refused", "found", "none", "stopped")[kind], number, settled, limit), told)
+    print(f"tools: {count} questions with limits from 0 on")
+
+
+def test_limit_0(folder):
+    """Limit 0 is refused with what to do about it, and its picture has no settled stretch."""
+    rows = ["..2@9", "34.5.", "6@7.8", "9..2."]
+    path, drawn = written(folder, "zero.map", text_of(rows)), Path(folder, "zero.svg")
+    weights = reference.rows_of(path.read_bytes())
+    why, advice = "the limit is 0 (left empty?), and must be at least 1", "nothing can be settled with limit 0; leave out --limit to search the whole map"
+    for words, start, goal in ((["--from", "0,0", "--to", "4,3"], 0, 19), (["--from", "2,0", "--to", "2,0"], 2, 2)):
+        words = [path, *words, "--limit", "0"]
+        out = expect_run(words, 1, [f"8 ways, limit 0\nrefused 15: {why}\n{advice}\nanswered by the program and the library, alike\n"])
+        due = floor_due(weights, start, goal, 8, settled=False, route=[])
+        expect_picture("limit 0", out, weights, due, start, goal, "beside")
+        told = json.loads(expect_run([*words, "--json"], 1))
+        expect("limit 0 as an object", (told["refusal"], told["why"], told["advice"], told["limit"]) == (15, why, advice, 0) and "route" not in told, told)
+        expect_run([*words, "--quiet", "--svg", drawn], 1, [advice])
+        picture = expect_svg("limit 0 as SVG", drawn.read_bytes(), weights, due, start, goal, [])
+        texts = [part.text for part in picture.of("text")]
+        expect("limit 0 in the picture's headline", texts[:2] == [f"refused 15: {why}", advice] and not any("settled," in text for text in texts), texts)
+    print("tools: limit 0 in words, as an object, in pictures")
+
+
+def test_empty_limit(folder):
+    """A box that was left empty, handed on by a script with quotes and without: what to do, and nothing is asked."""
+    hall, made = HALLS / "row.map", Path(folder, "made.questions")
+    ends = ["--from", "0,0", "--to", "1,0"]
+    empty = ["argument --limit: it is empty; a limit is a whole number from 1 to 4294967295; leave out --limit to search the whole map"]
+    for words in (["--limit", ""], ["--limit="], ["--limit", " "], ["--limit"]):
+        for more in ([], ["--json"], ["--write-questions", made]):
+            expect("nothing is answered then", expect_run([hall, *more, *words, *ends], 2, [], [*empty, "'./run --help' lists all words"]) == "")
+            expect_run([hall, *more, *ends, *words], 2, [], empty)
+    for limit in ("-1", "4294967296", "ten", "1 2", "0x1", "²"):
+        expect_run([hall, *ends, f"--limit={limit}"], 2, [], [f"argument --limit: that is a whole number from 1 to 4294967295, not {limit}"])
+    zero = ["the question: the limit is 0 (left empty?), and must be at least 1; leave out --limit to search the whole map"]
+    expect_run([hall, "--write-questions", made, *ends, "--limit", "0"], 2, [], zero)
+    expect("no question is written that would be refused for its limit", not made.exists())
+    for limit, due in (("1", 1), ("4294967295", 4294967295), (None, 4294967295)):
+        expect_run([hall, "--write-questions", made, *ends, *(["--limit", limit] if limit else [])], 0, ["1 question in"])
+        expect(f"a question with limit {limit}", made.read_bytes() == struct.pack("<IIIB3x", 0, 1, due, 8), made.read_bytes().hex())
+    print("tools: a limit that is empty, or no number, or 0 in a question that is written")
 
 
 def test_refused_maps(folder):
@@ -101,8 +182,8 @@ def test_usage(folder):
         ([hall, "--from", "0,0"], "a question needs --to x,y"),
         ([hall, "--from", "0;0", "--to", "1,0"], "a cell is x,y such as 3,8, not 0;0"),
         ([hall, *ends, "--ways", "5"], "invalid choice: 5"),
-        ([hall, *ends, "--limit", "4294967296"], "a whole number from 0 to 4294967295"),
-        ([hall, *ends, "--limit", "ten"], "a whole number from 0 to 4294967295"),
+        ([hall, *ends, "--check", "2", "--cost", "4294967296"], "a whole number from 0 to 4294967295"),
+        ([hall, *ends, "--check", "2", "--cost", ""], "a whole number from 0 to 4294967295"),
         ([hall, *ends, "--answers", questions], "a question does not go with --answers"),
         ([hall, *ends, "--cost", "5"], "a question does not go with --cost"),
         ([hall, *ends, "--replay", questions], "--replay does not go with --from x,y and --to x,y"),
@@ -124,9 +205,9 @@ def test_usage(folder):
         ([hall, "--replay", questions, "--answers", Path(folder, "no")], "the file of answers"),
     ):
         expect_run(words, 2, [], ["./run: ", complained])
-    expect_run(["--help"], 0, ["usage: ./run", "exit status", "--replay QUESTIONS", "examples", "sqrt(2)"])
+    expect_run(["--help"], 0, ["usage: ./run", "exit status", "--replay QUESTIONS", "examples", "sqrt(2)", "settle at most N cells, N at least 1"])
     header = (ROOT / "include" / "fradnumber.h").read_text(encoding="utf-8")
-    expect_run(["--version"], 0, ["fradnumber 1.2.0"] if "FRADNUMBER_VERSION 10200" in header else ["fradnumber"])
+    expect_run(["--version"], 0, ["fradnumber 1.3.0"] if "FRADNUMBER_VERSION 10300" in header else ["fradnumber"])
     print("tools: wrong usage and missing files")
 
 
@@ -162,15 +243,16 @@ def test_large_floors(folder):
 
 
 def test_json(folder):
-    for name, (rows, ways, start, goal, limit, _) in CASES.items():
+    for name, (rows, ways, start, goal, limit, said) in CASES.items():
         path = written(folder, f"case_{name}.map", text_of(rows))
-        lines = expect_run([path, "--from", start, "--to", goal, "--ways", ways, "--limit", limit, "--json"], 0).split("\n")
+        lines = expect_run([path, "--from", start, "--to", goal, "--ways", ways, "--limit", limit, "--json"], status_due(said)).split("\n")
         told = json.loads(lines[0])
         weights = reference.rows_of(path.read_bytes())
         begin, end = (int(cell.split(",")[1]) * len(weights[0]) + int(cell.split(",")[0]) for cell in (start, goal))
-        kind, _, settled, number, length = struct.unpack("<BBxxIII", reference.answer(path.read_bytes(), struct.pack("<IIIB3x", begin, end, limit, ways)))
+        kind, refused, settled, number, length = struct.unpack("<BBxxIII", reference.answer(path.read_bytes(), struct.pack("<IIIB3x", begin, end, limit, ways)))
         expect(f"case {name} is one line", lines[1:] == [""], lines)
-        expect(f"case {name}: kind and count", (told["kind"], told["settled"]) == (("refused", "found", "none", "stopped")[kind], settled), told)
+        expect(f"case {name}: kind", (told["kind"], told.get("refusal", 0)) == (("refused", "found", "none", "stopped")[kind], refused), told)
+        expect(f"case {name}: count", told.get("settled", 0) == settled and ("settled" in told) == (kind != 0), told)
         expect(f"case {name}: what was asked", [told["from"], told["to"]] == [list(map(int, cell.split(","))) for cell in (start, goal)] and told["limit"] == limit, told)
         if kind == 1:
             route = reference.first_route(weights, ways, reference.least_costs(weights, ways, begin), begin, end)
@@ -272,7 +354,8 @@ def test_questions_written(folder):
         ("1,1,2\n", "line 1: a question has from_x, from_y, to_x, to_y"),
         ("1,1,2,2\n1,1,48,2\n", "line 2: (48,2) off the map; x goes from 0 to 47"),
         ("1,1,2,x\n", "line 1: to_y is a whole number"),
-        ("1,1,2,2,8,-1\n", "line 1: limit is a whole number"),
+        ("1,1,2,2,8,-1\n", "line 1: limit is a whole number from 1 to 4294967295, not '-1'; an empty field is no limit"),
+        ("1,1,2,2,8,\n1,1,2,2,8,0\n", "line 2: limit is a whole number from 1 to 4294967295, not '0'; an empty field is no limit"),
         (b"\xff,1,2,3\n", "it is no UTF-8"),
     ):
         made.write_bytes(b"as it was")

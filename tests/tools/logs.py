@@ -235,6 +235,36 @@ def test_differs(folder):
     print(f"tools: logs: {len(cases)} entries whose answers or routes are not the proved ones")
 
 
+def test_limit_0_logged(folder):
+    """Limit 0 is logged as refused; an entry from before it was refused is read, and asked again it differs, which is explained."""
+    hall, log = written(folder, "b.map", text_of(".../...")), Path(folder, "zero.log")
+    zero = asked(0, 5, 0)
+    due = reference.entry_on(hall.read_bytes(), zero)
+    expect("limit 0 as R-2 has it", due == reference.entry(zero, answered(0, refusal=15)))
+    expect_run([hall, "--from", "0,0", "--to", "2,1", "--limit", "0", "--quiet", "--log", log], 1, ["refused 15: ", "as entry 1, bytes 0 to 31"])
+    expect_run([hall, "--replay", written(folder, "q", zero), "--log", log], 0, ["refused 15: ", "1 entry appended"])
+    expect("limit 0 as logged", log.read_bytes() == due * 2, log.read_bytes().hex(" "))
+    refused = "limit 0\n      refused 15: the limit is 0 (left empty?), and must be at least 1\n"
+    read(log, 0, [f"   2  (0,0) to (2,1), 8 ways, {refused}", "2 entries in 64 bytes; 0 routes checked; 0 routes are wrong; 0 entries differ\n"], [hall])
+
+    # then a stop that no planner has given, and a start off the map, which was no stop then either
+    stopped = [(0, 5, (3, 0, 0)), (0, 5, (3, 1, 0)), (6, 5, (3, 0, 0))]
+    old = written(folder, "old.log", due + b"".join(reference.entry(asked(start, goal, 0), answered(*answer)) for start, goal, answer in stopped))
+    explained = "before version 1.3.0 limit 0 was answered as stopped at floor 0, and not refused"
+    differs = "DIFFERS: entry {} (bytes {} to {}); the proved answer is refused "
+    out = read(old, 1, [
+        f"stopped after 0 cells at floor 0: no route to the goal costs less\n      {differs.format(2, 32, 63)}15: the limit is 0 (left empty?), and must be at least 1\n"
+        f"        {explained}\n        logged 03 00", differs.format(3, 64, 95) + "15: ", differs.format(4, 96, 127) + "5: ", "3 entries differ (number 2, 3, 4)\n",
+    ], [hall])
+    expect("the old answer to limit 0, and nothing else, is explained", out.count(explained) == 1, out)
+    entries, summary = objects(old, 1, [hall])
+    expect("as objects", [each.get("explained") for each in entries] == [None, explained, None, None] and summary["differ"] == 3, entries)
+    expect("both answers", (entries[1]["floor"], entries[1]["proved"]["refusal"]) == (0, 15), entries[1])
+    out = read(old, 0, ["   2  cell 0 to cell 5, 8 ways, limit 0\n      stopped after 0 cells at floor 0", "4 entries in 128 bytes\n"])
+    expect("without the map as they stand", explained not in out, out)
+    print("tools: logs: limit 0, and as it was logged before")
+
+
 # ---- not appended
 
 

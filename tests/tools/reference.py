@@ -1,4 +1,4 @@
-"""A search and a route log of its own for the tests: 01's rules and R-1's, a heap, and nothing of the project."""
+"""A search and a route log of its own for the tests: 01's rules, R-1's and R-2's, a heap, and nothing of the project."""
 import heapq
 import struct
 
@@ -57,11 +57,11 @@ def first_route(rows, ways, costs, start, goal):
     return route[::-1]
 
 
-def refusal(rows, start, goal, ways, zeros):
+def refusal(rows, start, goal, limit, ways, zeros):
     cells = [weight for row in rows for weight in row]
     tests = (
         (13, zeros != b"\0\0\0"), (4, ways not in (4, 8)), (5, start >= len(cells)), (6, goal >= len(cells)),
-        (7, start < len(cells) and cells[start] == 0), (8, goal < len(cells) and cells[goal] == 0),
+        (7, start < len(cells) and cells[start] == 0), (8, goal < len(cells) and cells[goal] == 0), (15, limit == 0),
     )
     return next((number for number, applies in tests if applies), 0)
 
@@ -70,7 +70,7 @@ def answer(text, record):
     """The answer record to a question record."""
     rows = rows_of(text)
     start, goal, limit, ways, zeros = struct.unpack("<IIIB3s", record)
-    number = refusal(rows, start, goal, ways, zeros)
+    number = refusal(rows, start, goal, limit, ways, zeros)
     if number:
         return struct.pack("<BBxxIII", 0, number, 0, 0, 0)
     costs = least_costs(rows, ways, start)

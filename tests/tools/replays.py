@@ -4,6 +4,7 @@ import os
 import pty
 import re
 import select
+import struct
 import subprocess
 import sys
 import time
@@ -65,7 +66,7 @@ def test_compared(folder):
     expect_run([hall, "--replay", questions], 0, [
         "   1  (3,12) to (43,12), 8 ways, limit 4096\n      found at cost 3290 in 46 steps; 527 cells settled\n",
         "(24,15) to cell 1152 (off the map), 8 ways", "refused 6: the goal is not on the map",
-        "last bytes 00 00 01", "refused 13: the last three bytes", "6 ways", "refused 4", "18 questions answered\n", "answered by the program\n",
+        "last bytes 00 00 01", "refused 13: the last three bytes", "6 ways", "refused 4", "limit 0\n      refused 15: the limit is 0", "18 questions answered\n", "answered by the program\n",
     ])
     out = replay(altered(answers, 16 * 6 + 8), 1, ["DIFFERS: answer 7 (bytes 96 to 111) says found at cost 5741", "1 given answer differs (number 7)"])
     expect("one difference", out.count("DIFFERS") == 1 and "   7  (10,7) to (37,7), 4 ways" in out and "found at cost 5740" in out, out)
@@ -88,6 +89,38 @@ def test_compared(folder):
     many = asked * 3000
     expect_run([hall, "--replay", written(folder, "q", many), "--answers", written(folder, "a", answers * 3000), "--quiet"], 0, ["54000 questions answered; 0 given"])
     print("tools: replays: altered, missing and further answers, torn and broken files, 54000 questions")
+
+
+def test_limit_0_replayed(folder):
+    """Limit 0 in a file of questions: refused after all else, with what to do; an answer from before it was refused differs, and that is explained."""
+    path = written(folder, "a.map", text_of(".@./..."))
+    # start, goal, ways, what follows them; all with limit 0
+    asked = [struct.pack("<IIIB3s", start, goal, 0, ways, zeros) for start, goal, ways, zeros in (
+        (0, 2, 8, b"\0\0\0"), (0, 2, 8, b"\0\0\1"), (0, 2, 6, b"\0\0\0"), (6, 2, 8, b"\0\0\0"), (0, 6, 8, b"\0\0\0"), (1, 2, 8, b"\0\0\0"), (0, 1, 8, b"\0\0\0"),
+        (0, 0, 4, b"\0\0\0"),
+    )]
+    due = [reference.answer(path.read_bytes(), record) for record in asked]
+    expect("each of the others is told before 15", [answer[:2] for answer in due] == [bytes((0, number)) for number in (15, 13, 4, 5, 6, 7, 8, 15)])
+    words = [path, "--replay", written(folder, "q", b"".join(asked)), "--answers"]
+    advice = "nothing can be settled with limit 0; a record that is to search the whole map has limit 4294967295"
+    refused = f"(0,0) to (2,0), 8 ways, limit 0\n      refused 15: the limit is 0 (left empty?), and must be at least 1\n      {advice}\n"
+    out = expect_run([*words, written(folder, "a", b"".join(due))], 0, [f"   1  {refused}   2  ", "8 questions answered; 0 given answers differ"])
+    expect("advice where the limit is what is wrong", out.count(advice) == 2, out)
+
+    old, odd = b"\3" + bytes(15), b"\3" + bytes(3) + b"\1" + bytes(11)
+    explained = "before version 1.3.0 limit 0 was answered as stopped at floor 0, and not refused"
+    says = "      DIFFERS: answer {} (bytes {} to {}) says stopped after {} at floor 0: no route to the goal costs less\n"
+    given = written(folder, "old", b"".join([old, old, *due[2:7], odd]))
+    out = expect_run([*words, given], 1, [
+        f"{refused}{says.format(1, 0, 15, '0 cells')}        {explained}\n        given  03 00", f"{says.format(2, 16, 31, '0 cells')}        given  03 00",
+        f"{says.format(8, 112, 127, '1 cell')}        given  03 00", "3 given answers differ (number 1, 2, 8)",
+    ])
+    expect("what limit 0 was answered with, and nothing else, is explained", out.count(explained) == 1, out)
+    told = [json.loads(line) for line in expect_run([*words, given, "--json"], 1).split("\n")[:-2]]
+    expect("explained, as an object", [each["question"] for each in told if each.get("explained") == explained] == [1], told)
+    expect("advice, as an object", [each["question"] for each in told if each.get("advice") == advice] == [1, 8], told)
+    expect("the given answer, as an object", (told[0]["compared"], told[0]["given"]["kind"], told[0]["given"]["floor"]) == ("differs", "stopped", 0), told[0])
+    print("tools: replays: limit 0, beside every other refusal, and as it was answered before")
 
 
 SOON = 10  # seconds in which an answer comes

@@ -110,6 +110,14 @@ def first_route(calls, floor, asked, answered):
     return rooms.route
 
 
+def advice(outcome):
+    """What to do about a question that is refused, where the refusal's words do not say it."""
+    floor, refused = outcome.floor, outcome.answer.refusal
+    if refused in (5, 6):
+        return f"on this map x goes from 0 to {floor.width - 1} and y from 0 to {floor.height - 1}"
+    return words.ZERO_LIMIT_IN_WORDS if refused == words.ZERO_LIMIT else None
+
+
 def more_about(outcome, root):
     """Lines that say more than the answer's own line."""
     floor, answer = outcome.floor, outcome.answer
@@ -119,9 +127,8 @@ def more_about(outcome, root):
             words.true_length(floor, outcome.question.start, outcome.rooms.route, root),
             f"checked as a claimed route: {verdict} at cost {answer.number}",
         ]
-    if answer.refusal in (5, 6):
-        return [f"on this map x goes from 0 to {floor.width - 1} and y from 0 to {floor.height - 1}"]
-    return []
+    line = advice(outcome)
+    return [line] if line else []
 
 
 def outcome_object(given, outcome):
@@ -132,6 +139,8 @@ def outcome_object(given, outcome):
         straight, diagonal = words.sums(floor, outcome.question.start, outcome.rooms.route)
         told |= {"route": list(outcome.rooms.route), "p": straight, "q": diagonal, "true_length": straight + diagonal * math.sqrt(2)}
         told |= {"checked": outcome.holds}
+    if advice(outcome):
+        told["advice"] = advice(outcome)
     return {**told, "answered_by": ["planner", "library"] if outcome.by == BY_BOTH else ["library"]}
 
 
@@ -195,7 +204,7 @@ def shown_steps(route, verdict):
 
 def check(given, calls, floor, _):
     """What the route check says of a claim."""
-    asked = question(cell_number(floor, given.start), cell_number(floor, given.goal), 0, given.ways)
+    asked = question(cell_number(floor, given.start), cell_number(floor, given.goal), LARGEST, given.ways)
     verdict = calls.check_route(floor, asked, given.cost, given.check)
     fault = fault_cell(floor, asked.start, given.check, verdict)
     view = View(floor, asked, route=shown_steps(given.check, verdict), fault=fault)

@@ -8,7 +8,7 @@ from asking.logfile import Entries, all_bytes
 from asking.names import base_name
 from asking.programs import FOUND, HOLDS, answer_of, is_for_program, question_of
 from asking.questions import ANSWERED, BY_LIBRARY, DIFFERENT, about_map, answer_object, first_route, refusal_object, sizes, verdict_object
-from asking.replaying import Noted, Progress, answering, asked_object
+from asking.replaying import Noted, Progress, answering, asked_object, explained, explained_object
 
 INDENT = 6
 
@@ -63,6 +63,7 @@ def entry_lines(shown, floor):
         yield f"      WRONG: {where}, checked as a claimed route: {words.objection(shown.verdict, floor, entry.route, asked.start)}"
     if shown.answer_differs():
         yield f"      DIFFERS: {where}; the proved answer is {words.answer(answer_of(shown.proved))}"
+        yield from explained(entry.answered, shown.proved)
         yield f"        logged {entry.answered.hex(' ')}"
         yield f"        proved {shown.proved.hex(' ')}"
     if shown.route_differs():
@@ -82,6 +83,7 @@ def entry_object(shown, floor):
         told["compared"] = "differs" if shown.differs() else "same"
     if shown.proved and shown.differs():
         told["proved"] = {**answer_object(answer_of(shown.proved)), "hex": shown.proved.hex(), "route": list(shown.route)}
+        told |= explained_object(entry.answered, shown.proved)
     return told
 
 

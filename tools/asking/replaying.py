@@ -83,15 +83,29 @@ def answering(calls, floor, text):
 Turn = namedtuple("Turn", "place asked proved given compared unlogged", defaults=(None,))
 
 
+def explained(kept, proved):
+    """A line for an answer that was kept from before a change of the rules."""
+    why = words.change_of_rules(answer_of(kept), answer_of(proved))
+    return [f"        {why}"] if why else []
+
+
+def explained_object(kept, proved):
+    why = words.change_of_rules(answer_of(kept), answer_of(proved))
+    return {"explained": why} if why else {}
+
+
 def turn_lines(turn, floor):
     yield f"{turn.place + 1:>4}  {words.asked(floor, question_of(turn.asked))}"
     yield f"      {words.answer(answer_of(turn.proved))}"
+    if answer_of(turn.proved).refusal == words.ZERO_LIMIT:
+        yield f"      {words.ZERO_LIMIT_IN_A_RECORD}"
     at = f"answer {turn.place + 1} (bytes {turn.place * RECORD} to {turn.place * RECORD + RECORD - 1})"
     if turn.compared == "missing":
         yield f"      MISSING: {at} is not in the file of answers"
     if turn.compared == "differs":
         odd = "".join(f"; {each}" for each in words.oddities(answer_of(turn.given)))
         yield f"      DIFFERS: {at} says {words.answer(answer_of(turn.given))}{odd}"
+        yield from explained(turn.given, turn.proved)
         yield f"        given  {turn.given.hex(' ')}"
         yield f"        proved {turn.proved.hex(' ')}"
     if turn.unlogged:
@@ -109,10 +123,12 @@ def asked_object(floor, asked):
 
 def turn_object(turn, floor):
     told = {"question": turn.place + 1, **asked_object(floor, question_of(turn.asked)), **answer_object(answer_of(turn.proved))}
+    if answer_of(turn.proved).refusal == words.ZERO_LIMIT:
+        told["advice"] = words.ZERO_LIMIT_IN_A_RECORD
     if turn.compared:
         told["compared"] = turn.compared
     if turn.compared == "differs":
-        told["given"] = {**answer_object(answer_of(turn.given)), "hex": turn.given.hex()}
+        told |= {"given": {**answer_object(answer_of(turn.given)), "hex": turn.given.hex()}, **explained_object(turn.given, turn.proved)}
     if turn.unlogged:
         told["not_logged"] = refusal_object(turn.unlogged)
     return told
@@ -286,9 +302,9 @@ def replay(given, calls, floor, text, out):
 # ---- questions written
 
 
-def number_in(text, name, where, most):
-    if not re.fullmatch(r"\s*[0-9]{1,10}\s*", text) or int(text) > most:
-        raise Trouble(f"{where}: {name} is a whole number from 0 to {most}, not {visible(text)!r}")
+def number_in(text, name, where, most, least=0, otherwise=""):
+    if not re.fullmatch(r"\s*[0-9]{1,10}\s*", text) or not least <= int(text) <= most:
+        raise Trouble(f"{where}: {name} is a whole number from {least} to {most}, not {visible(text)!r}{otherwise}")
     return int(text)
 
 
@@ -307,13 +323,15 @@ def questions_in(path, floor):
             raise Trouble(f"{where}: a question has from_x, from_y, to_x, to_y, and if wanted ways and limit; here are {words.count(len(fields), 'field')}")
         x, y, to_x, to_y = (number_in(field, name, where, LARGEST) for field, name in zip(fields, ("from_x", "from_y", "to_x", "to_y")))
         ways = number_in(fields[4], "ways", where, 255) if fields[4:5] and fields[4].strip() else 8
-        limit = number_in(fields[5], "limit", where, LARGEST) if fields[5:6] and fields[5].strip() else LARGEST
+        limit = number_in(fields[5], "limit", where, LARGEST, 1, "; an empty field is no limit") if fields[5:6] and fields[5].strip() else LARGEST
         yield where, (x, y), (to_x, to_y), ways, limit
 
 
 def write_questions(given, floor, out):
-    """Question records from words or from a CSV file."""
+    """Question records from words or from a CSV file. None is written that would be refused for its cells being off the map, or for its limit."""
     if given.csv is None:
+        if given.limit == 0:
+            raise Trouble(f"the question: {words.meaning(words.ZERO_LIMIT)}; {words.LEAVE_OUT}")
         wanted = [("the question", given.start, given.goal, given.ways, given.limit)]
     else:
         wanted = list(questions_in(given.csv, floor))

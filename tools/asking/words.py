@@ -1,7 +1,7 @@
 """Answers, refusals and differences in words."""
 import math
 
-from asking.programs import DIRECTIONS, FOUND, HOLDS, LARGEST, LONGEST_LOGGED_ROUTE, MARK, NONE, REFUSED, STOPPED, cells_of
+from asking.programs import DIRECTIONS, FOUND, HOLDS, LARGEST, LONGEST_LOGGED_ROUTE, MARK, NONE, REFUSED, STOPPED, Answer, cells_of
 
 # Refusals and faults, as docs/MANUAL.md has them ("Refusals and faults").
 NUMBERS = {
@@ -19,6 +19,7 @@ NUMBERS = {
     12: "the claimed route is longer than width x height - 1",
     13: "the last three bytes of the question are not all 0",
     14: "the map is too big for the program",
+    15: "the limit is 0 (left empty?), and must be at least 1",
     21: "the first line is not 'type octile'",
     22: "the second line is not 'height H' with H from 1 to 256, one space and no leading zero",
     23: "the third line is not 'width W' with W from 1 to 256, one space and no leading zero",
@@ -41,6 +42,15 @@ NUMBERS = {
     64: "the room is shorter than the route or the entry",
 }
 KINDS = {REFUSED: "refused", FOUND: "found", NONE: "none", STOPPED: "stopped"}
+
+# What to do about a limit that was left empty or sent as 0.
+ZERO_LIMIT = 15
+LEAVE_OUT = "leave out --limit to search the whole map"
+EMPTY_LIMIT = f"it is empty; a limit is a whole number from 1 to {LARGEST}; {LEAVE_OUT}"
+ZERO_LIMIT_IN_WORDS = f"nothing can be settled with limit 0; {LEAVE_OUT}"
+ZERO_LIMIT_IN_A_RECORD = f"nothing can be settled with limit 0; a record that is to search the whole map has limit {LARGEST}"
+# How limit 0 was answered before it was refused.
+OLD_ANSWER_TO_ZERO = Answer(STOPPED, 0, b"\0\0", 0, 0, 0)
 
 CELL_CHARACTERS = "cells are . and G (weight 1), 1 to 9 (their own weight), @, O and T (blocked)"
 
@@ -104,6 +114,13 @@ def oddities(given):
     if given.kind in (NONE, STOPPED) and given.length:
         odd.append(f"route length {given.length}")
     return odd
+
+
+def change_of_rules(kept, proved):
+    """Why an answer that was kept is not the proved one, where the rules were others then; None elsewhere."""
+    if proved.refusal == ZERO_LIMIT and kept == OLD_ANSWER_TO_ZERO:
+        return "before version 1.3.0 limit 0 was answered as stopped at floor 0, and not refused"
+    return None
 
 
 def place(floor, cell):
