@@ -138,7 +138,7 @@ def furnace_questions(rows):
         asked(rows, west, east, ways=4),
         asked(rows, east, west),  # back: the cell entered counts, so another cost
         asked(rows, west, east, limit=300),
-        asked(rows, west, east, limit=0),
+        asked(rows, west, east, limit=0),  # left empty
         asked(rows, (10, 7), (37, 7)),  # from furnace to furnace, past the hottest
         asked(rows, (10, 7), (37, 7), ways=4),
         asked(rows, (1, 1), (46, 22), limit=LARGEST),
