@@ -1,9 +1,11 @@
--- Limits from 1 on: L begins with the start, so that each row of 01's table settles it, and every cell after it in L is at least a step away.
+-- Limits from 1 on: 15 is the last line and the only one of its number; L begins with the start, so that each row of 01's table settles it, and every cell after it in L is at least a step away.
 use mathlib.Core.Path.{_≡_, refl, sym, _∙_, subst}
-use mathlib.Core.Logic.{_⊎_, inl, inr, ⊎-elim, _≢_}
+use mathlib.Core.Logic.{_↔_, _⊎_, inl, inr, ⊎-elim, _≢_}
 use mathlib.Core.List.{List, [], _∷_}
 use Prim.Native.Nat.{ℕ, _≤_}
+use native.Mathlib.Decide.{ℕ-discrete}
 use native.Mathlib.Omega.{arith}
+use borrow.Author.Tests.{ne-eqb}
 use lib.Dec.{T}
 use lib.ListN.{length, getD}
 use Rattle.paths.specs.Graph.{Graph, Lawful}
@@ -12,16 +14,22 @@ use Rattle.paths.proofs.Bools.{T-and}
 use Rattle.paths.proofs.Walks.{stay}
 use Rattle.settling.specs.List.{At, IsL}
 use Rattle.floor.specs.declared.Floor.{Floor}
+use Rattle.floor.specs.declared.Screen.{Screen}
+use Rattle.floor.specs.declared.Screen.the-variants.{Passed, Refused}
+use Rattle.floor.specs.Refusal.{Line, screen}
 use Rattle.floor.specs.Step.{leastStep, greatestStep, graph}
+use Rattle.floor.proofs.Screens.{andThen, screen-append}
+use Rattle.floor.proofs.Lines.{lowest-line, number-between}
 use Rattle.search.specs.declared.Answer.{Answer}
 use Rattle.search.specs.declared.Answer.the-variants.{Found, None, Stopped}
 use Rattle.search.specs.declared.AnswerNumbers.{AnswerNumbers}
-use Rattle.search.specs.Search.{Question, Rooms, Searched, refused, passed, numbersOf}
+use Rattle.search.specs.Search.{Question, Rooms, limitLine, lengthLines, searchLines, Searched, refused, passed, numbersOf}
 use Rattle.search.proofs.Lending.{some-limit}
 use Rattle.recordlayout.specs.Record.{questionIn}
 use Rattle.desk.specs.Desk.{Asked, no-zeros, searched, wholeRecords}
 use Rattle.tender.specs.SearchTable.{Answers}
 use Rattle.tender.specs.Limits.{Tells, LimitsFromOne}
+use Rattle.tender.proofs.FirstHolds.{first-condition}
 use Rattle.tender.proofs.Rowed.{law}
 use Rattle.tender.proofs.Tabled.{table-holds}
 use Rattle.tender.proofs.Records.{record-numbers, answered-each}
@@ -84,8 +92,37 @@ asked-tells : {f : Floor} {m question : List ℕ} {r : Rooms} {a : Answer} {r′
 asked-tells {question = question} (no-zeros z e k) = rw e (refusal-tells (questionIn question) 13 0)
 asked-tells (searched z x) = searched-tells x
 
+-- the limit's line alone
+zero-given : (k : ℕ) → screen (limitLine k ∷ []) ≡ Refused 15 0 → k ≡ 0
+zero-given k e = go (ℕ-discrete k 0)
+  where
+    go : Dec (k ≡ 0) → k ≡ 0
+    go (yes z) = z
+    go (no n) = let p : Passed ≡ Refused 15 0 = rw (ne-eqb k 0 n) at e in let z : _≡_ {A = ℕ} 0 1 = cc in absurd (omega arith)
+
+-- no line before it has the number 15
+module _ (f : Floor) (m : List ℕ) (q : Question) (r : Rooms) where
+  abbrev earlier : List Line
+  earlier = lengthLines f m (q .start) (q .goal) (length (r .costs)) (length (r .work)) (length (r .route))
+
+  late : (s : Screen) → screen earlier ≡ s → andThen s (screen (limitLine (q .limit) ∷ [])) ≡ Refused 15 0 → (q .limit ≡ 0) × (screen earlier ≡ Passed)
+  late Passed e k = (zero-given (q .limit) k, e)
+  late (Refused n p) e k = let same : n ≡ 15 = cc in absurd (omega (arith, number-between 0 12 earlier tt tt e .1))
+
+  limit-last : (screen (searchLines f m q r) ≡ Refused 15 0) ↔ ((q .limit ≡ 0) × (screen earlier ≡ Passed))
+  limit-last =
+      let tried = screen-append earlier (limitLine (q .limit) ∷ []) in
+      (λ e. late (screen earlier) refl (sym tried ∙ e), λ w. tried ∙ rw (w .1, w .0) refl)
+
+  fifteen-exactly : (a : Answer) (r′ : Rooms) → Searched f m q r a r′ → (a ≡ Answer.Refused 15 0) ↔ ((q .limit ≡ 0) × (screen earlier ≡ Passed))
+  fifteen-exactly a r′ x =
+      let given = first-condition .search f m q r a r′ x .exactly 15 0 in
+      let lowest = lowest-line (searchLines f m q r) 0 tt 15 0 in
+      (λ e. limit-last .0 (lowest .1 (given .0 e)), λ w. given .1 (lowest .0 (limit-last .1 w)))
+
 pub limits-from-one : LimitsFromOne
 limits-from-one = record {
+  fifteen = fifteen-exactly;
   passed = some-limit;
   search = λ f m q r a r′ x. searched-tells x;
   call = λ f m q r n r′ x. rw (x .numbers) (searched-tells (x .searched));

@@ -1,15 +1,16 @@
 -- 02, R-2: limit 0 tells nothing, and is refused. So the second condition speaks of limits from 1 on, and every answer tells something.
 use mathlib.Core.Path.{_≡_}
-use mathlib.Core.Logic.{_≢_}
+use mathlib.Core.Logic.{_↔_, _≢_}
 use mathlib.Core.List.{List}
 use Prim.Native.Nat.{ℕ, _≤_, _<_}
+use lib.ListN.{length}
 use Rattle.floor.specs.declared.Floor.{Floor}
 use Rattle.floor.specs.declared.Screen.the-variants.{Passed}
 use Rattle.floor.specs.Refusal.{screen}
 use Rattle.floor.specs.Step.{leastStep}
 use Rattle.search.specs.declared.Answer.{Answer}
 use Rattle.search.specs.declared.AnswerNumbers.{AnswerNumbers}
-use Rattle.search.specs.Search.{Question, Rooms, searchLines, Searched, numbersOf, Called}
+use Rattle.search.specs.Search.{Question, Rooms, lengthLines, searchLines, Searched, numbersOf, Called}
 use Rattle.recordlayout.specs.Record.{questionIn, recordFor}
 use Rattle.desk.specs.Desk.{wholeRecords, recordAt, IsAnswered}
 
@@ -22,6 +23,11 @@ pub record Tells (q : Question) (n : AnswerNumbers) : Type 0 where
   pub floor : n .kind ≡ 3 → leastStep ≤ n .number
 
 pub record LimitsFromOne : Type 0 where
+  -- "Refuse it as 15, checked after 11": exactly when none of 1 to 11 is given
+  pub fifteen : (f : Floor) (m : List ℕ) (q : Question) (r : Rooms) (a : Answer) (r′ : Rooms) → Searched f m q r a r′
+      → (a ≡ Answer.Refused 15 0)
+      ↔ ((q .limit ≡ 0) × (screen (lengthLines f m (q .start) (q .goal) (length (r .costs)) (length (r .work)) (length (r .route))) ≡ Passed))
+  -- so what passes has a limit from 1 on
   pub passed : (f : Floor) (m : List ℕ) (q : Question) (r : Rooms) → screen (searchLines f m q r) ≡ Passed → 1 ≤ q .limit
   pub search : (f : Floor) (m : List ℕ) (q : Question) (r : Rooms) (a : Answer) (r′ : Rooms) → Searched f m q r a r′ → Tells q (numbersOf a)
   pub call : (f : Floor) (m : List ℕ) (q : Question) (r : Rooms) (n : AnswerNumbers) (r′ : Rooms) → Called f m q r n r′ → Tells q n
