@@ -1,6 +1,6 @@
 -- A least-cost route visits no cell twice: the steps between two visits of a cell cost something, and the route without them leads to the same cell.
 use mathlib.Core.Path.{_≡_, sym, _∙_, ap}
-use mathlib.Core.Logic.{_≢_}
+use mathlib.Core.Logic.{_≢_, _⊎_, inl, inr}
 use mathlib.Core.List.{List, [], _∷_, _++_}
 use Prim.Native.Nat.{ℕ, _≤_, _<_}
 use native.Mathlib.Omega.{arith}
@@ -17,21 +17,29 @@ abbrev pub visited : Graph → ℕ → List ℕ → ℕ → ℕ
 visited g s ds i = ends g s (take i ds)
 
 module _ {g : Graph} {least most : ℕ} (law : Lawful g least most) where
-  -- a route that is not empty costs something
-  pub steps-cost : (u : ℕ) (ds : List ℕ) → T (walks g u ds) → 0 < length ds → 0 < costOf g u ds
+  -- a route that is not empty costs a step at least
+  pub steps-cost : (u : ℕ) (ds : List ℕ) → T (walks g u ds) → 0 < length ds → least ≤ costOf g u ds
   steps-cost u [] w h = absurd (omega arith)
-  steps-cost u (d ∷ ds) w h = omega (arith, law .at-least u d (T-and (g .allowed u d) (walks g (g .to u d) ds) w .0), law .positive)
+  steps-cost u (d ∷ ds) w h = omega (arith, law .at-least u d (T-and (g .allowed u d) (walks g (g .to u d) ds) w .0))
+
+  -- so a cell other than the start is at least a step away
+  pub step-away : {s v c : ℕ} → Least g s v c → (v ≡ s) ⊎ (least ≤ c)
+  step-away {s} {v} {c} x = go (x .way) (x .route) (x .costs)
+    where
+      go : (ds : List ℕ) → Route g s v ds → costOf g s ds ≡ c → (v ≡ s) ⊎ (least ≤ c)
+      go [] r e = inl (sym (r .arrives))
+      go (d ∷ ds) r e = inr (omega (arith, steps-cost s (d ∷ ds) (r .allowed) (omega arith)))
 
   front-walks : (s : ℕ) (ds : List ℕ) → T (walks g s ds) → (i : ℕ) → T (walks g s (take i ds))
   front-walks s ds w i = append-walks g s (take i ds) (drop i ds) (rw (take-append-drop i ds) w) .0
 
-  -- so its first i steps cost less than all of them
+  -- and the first i steps of a route cost less than all of them
   front-cheaper : (s : ℕ) (ds : List ℕ) → T (walks g s ds) → (i : ℕ) → i < length ds → costOf g s (take i ds) < costOf g s ds
   front-cheaper s ds w i h =
       let e = take-append-drop i ds in
       let k = append-walks g s (take i ds) (drop i ds) (rw e w) in
       let c = cost-append g s (take i ds) (drop i ds) in
-      omega (arith, rw e at c, steps-cost (ends g s (take i ds)) (drop i ds) (k .1) (simp length-drop (omega arith)))
+      omega (arith, rw e at c, steps-cost (ends g s (take i ds)) (drop i ds) (k .1) (simp length-drop (omega arith)), law .positive)
 
   module _ (s v c : ℕ) (l : Least g s v c) (ds : List ℕ) (r : Route g s v ds) (cheap : costOf g s ds ≡ c) where
     pub no-cell-twice : (i j : ℕ) → i < j → j ≤ length ds → visited g s ds i ≢ visited g s ds j

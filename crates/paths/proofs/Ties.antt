@@ -56,7 +56,7 @@ module _ {g : Graph} {least most : ℕ} (law : Lawful g least most) where
         let z : ends g s ds ≡ ends g (ends g s x) ds = p .arrives ∙ sym (q .arrives) ∙ ap (ends g s) e ∙ ends-append g s x ds in
         let here = same-start s (ends g s x) ds (p .allowed) (w .1) z in
         let sum = ap (costOf g s) e ∙ cost-append g s x ds in
-        omega (arith, c, sum, ap (λ (u : ℕ). costOf g u ds) here, steps-cost law s x (w .0) h)
+        omega (arith, c, sum, ap (λ (u : ℕ). costOf g u ds) here, steps-cost law s x (w .0) h, law .positive)
 
     -- "exactly one route is first": of two different routes of the same cost, so of two least-cost ones, one is ahead of the other, and not both
     pub one-ahead : (ds es : List ℕ) → Route g s v ds → Route g s v es → costOf g s ds ≡ costOf g s es → ds ≢ es

@@ -1,16 +1,15 @@
 -- Limits from 1 on: 15 is the last line and the only one of its number; L begins with the start, so that each row of 01's table settles it, and every cell after it in L is at least a step away.
 use mathlib.Core.Path.{_≡_, refl, sym, _∙_, subst}
-use mathlib.Core.Logic.{_↔_, _⊎_, inl, inr, ⊎-elim, _≢_}
+use mathlib.Core.Logic.{_↔_, ⊎-elim, _≢_}
 use mathlib.Core.List.{List, [], _∷_}
 use Prim.Native.Nat.{ℕ, _≤_}
 use native.Mathlib.Decide.{ℕ-discrete}
 use native.Mathlib.Omega.{arith}
 use borrow.Author.Tests.{ne-eqb}
-use lib.Dec.{T}
 use lib.ListN.{length, getD}
-use Rattle.paths.specs.Graph.{Graph, Lawful}
-use Rattle.paths.specs.Route.{walks, ends, costOf, Least}
-use Rattle.paths.proofs.Bools.{T-and}
+use Rattle.paths.specs.Graph.{Lawful}
+use Rattle.paths.specs.Route.{Least}
+use Rattle.paths.proofs.Loops.{step-away}
 use Rattle.paths.proofs.Walks.{stay}
 use Rattle.settling.specs.List.{At, IsL}
 use Rattle.floor.specs.declared.Floor.{Floor}
@@ -33,14 +32,6 @@ use Rattle.tender.proofs.FirstHolds.{first-condition}
 use Rattle.tender.proofs.Rowed.{law}
 use Rattle.tender.proofs.Tabled.{table-holds}
 use Rattle.tender.proofs.Records.{record-numbers, answered-each}
-
--- a cell other than the start is at least a step away
-step-away : {g : Graph} {least most : ℕ} → Lawful g least most → {s v c : ℕ} → Least g s v c → (v ≡ s) ⊎ (least ≤ c)
-step-away {g} {least} law {s} {v} {c} x = go (x .way) (x .route .allowed) (x .route .arrives) (x .costs)
-  where
-    go : (ds : List ℕ) → T (walks g s ds) → ends g s ds ≡ v → costOf g s ds ≡ c → (v ≡ s) ⊎ (least ≤ c)
-    go [] w e k = inl (sym e)
-    go (d ∷ ds) w e k = inr (omega (arith, law .at-least s d (T-and (g .allowed s d) (walks g (g .to s d) ds) w .0)))
 
 -- an answer for which 01's table holds, to a question with a limit from 1 on
 module _ (f : Floor) (m : List ℕ) (q : Question) (l : List ℕ) (lawful : Lawful (graph f m) leastStep greatestStep) (is : IsL (graph f m) (q .start) l)
