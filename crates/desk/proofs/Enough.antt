@@ -48,8 +48,9 @@ module _ (text : List ℕ) (room : ℕ) (f : Floor) (used : reading.numbersOf (M
   before-or-after (Refused i j) late e = inl e
 
   -- no question about a map that can be used is refused as 9, 10 or 11
-  pub room-enough : (m question : List ℕ) {a : Answer} {r′ : Rooms} → Asked f m question r a r′ → (numbersOf a .refusal < 9) ⊎ (11 < numbersOf a .refusal)
-  room-enough m question (no-zeros z e l) = inr (rw e (omega arith))
+  pub room-enough : (m question : List ℕ) {a : Answer} {r′ : Rooms} → Asked f m question r a r′
+      → (numbersOf a .refusal < 9) ⊎ (numbersOf a .refusal ≡ 13) ⊎ (numbersOf a .refusal ≡ 15)
+  room-enough m question (no-zeros z e l) = inr (inl (ap (λ (x : Answer). numbersOf x .refusal) e))
   room-enough m question (searched z (passed e x)) =
       let w = rowOf (withWays f (waysIn question)) m (questionIn question) (x .table) in
       inl (rw (x .answer) (not-refused (w .kind) w))
@@ -63,5 +64,5 @@ module _ (text : List ℕ) (room : ℕ) (f : Floor) (used : reading.numbersOf (M
       screen-append (early ++ rooms) late
       ∙ ap (λ (s : Screen). andThen s (screen late)) (screen-append early rooms ∙ ap (andThen (screen early)) (rooms-pass (waysIn question))) in
       rw k
-      (⊎-elim (λ h. inl (number-between 0 9 early tt tt h .1)) (λ h. inr (number-between 11 16 late tt tt h .0))
+      (⊎-elim (λ h. inl (number-between 0 9 early tt tt h .1)) (λ h. let b = number-between 14 16 late tt tt h in inr (inr (omega (arith, b .0, b .1))))
       (before-or-after (screen early) (screen late) (sym tried ∙ e)))
