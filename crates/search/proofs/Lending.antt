@@ -1,11 +1,11 @@
 -- The promise from the rooms' parts: a refusal leaves everything as it was, and else each part is followed by the rest of its room.
 use mathlib.Core.Path.{_≡_, refl}
-use mathlib.Core.Bool.{not}
 use mathlib.Core.List.{List, [], _∷_, _++_}
-use Prim.Native.Nat.{ℕ, zero, suc, _*_, _≤_}
+use Prim.Native.Nat.{ℕ, _*_, _≤_}
 use native.Mathlib.Omega.{arith}
-use lib.Dec.{T, eqb, nltb→le}
+use lib.Dec.{nltb→le}
 use lib.ListN.{length, drop, replicate}
+use Rattle.paths.proofs.Bools.{not-eqb-ne}
 use Rattle.floor.specs.declared.Floor.{Floor}
 use Rattle.floor.specs.declared.Screen.the-variants.{Passed, Refused}
 use Rattle.floor.specs.Place.{cells}
@@ -45,11 +45,7 @@ module _ (f : Floor) (m : List ℕ) (q : Question) (r : Rooms) where
 
     -- 02, R-2: a search that is not refused may settle a cell
     pub some-limit : 1 ≤ q .limit
-    some-limit = go (q .limit) (none-given (limitLine (q .limit) ∷ []) (both .1) .0)
-      where
-        go : (k : ℕ) → T (not (eqb k 0)) → 1 ≤ k
-        go zero t = absurd t
-        go (suc k) t = omega arith
+    some-limit = let n = not-eqb-ne (q .limit) 0 (none-given (limitLine (q .limit) ∷ []) (both .1) .0) in omega (arith, n)
 
     -- n is the number of cells, as the code has it
     pub searched-passed : (n : ℕ) → n ≡ cells f → {a : Answer} {costs′ work′ route′ : List ℕ} → Finished f m q (r .route) a costs′ route′
