@@ -14,15 +14,10 @@ use Rattle.floor.specs.declared.Screen.the-variants.{Passed}
 use Rattle.floor.specs.Refusal.{screen, HasPassed}
 use Rattle.floor.specs.Step.{greatestStep, stepOf}
 use Rattle.floor.proofs.Passing.{facts, few-cells}
-use Rattle.floor.proofs.Allowed.{leads}
-use Rattle.floor.proofs.Laws.{lawful}
+use Rattle.floor.proofs.Laws.{step-between}
 use Rattle.floor.specs.Numbers.{fault}
 use Rattle.claims.specs.Route.{Claim, claimLines, faultOf, arrived, onStep, tried}
 use Rattle.claims.proofs.Passing.{claim-passed, claim-short}
-
-module _ (f : Floor) (m : List ℕ) (v d : ℕ) where
-  pub step-most : HasPassed f m → {w s : ℕ} → stepOf f m v d ≡ To w s → s ≤ greatestStep
-  step-most p e = let l = leads f m v d e in omega (arith, l .costs, lawful f m p .at-most v d (l .steps))
 
 -- after i steps, on cell v with the cost k behind: the rest of the route decides
 pub record Behind (f : Floor) (m : List ℕ) (c : Claim) (v k i : ℕ) : Type 0 where
@@ -42,7 +37,7 @@ module _ {f : Floor} {m : List ℕ} {c : Claim} {v k i : ℕ} (b : Behind f m c 
   one-more p h e = record {
     rest = next h ∙ rw (e, add-one);
     steps = omega arith;
-    cost = omega (arith, b .cost, step-most f m v (getD (c .route) i 0) p e);
+    cost = omega (arith, b .cost, step-between f m p v (getD (c .route) i 0) e .1);
   }
 
   pub barred : {r : Reason} → i < length (c .route) → stepOf f m v (getD (c .route) i 0) ≡ Barred r

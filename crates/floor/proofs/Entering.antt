@@ -1,5 +1,5 @@
 -- The step into a cell: the step back from the cell enters the cell that it leaves, by the laws of the step back at the opposite direction.
-use mathlib.Core.Path.{_≡_, refl, subst}
+use mathlib.Core.Path.{_≡_, refl, sym, subst}
 use mathlib.Core.Bool.{Bool, true, false, cond, not, _&&_}
 use mathlib.Core.List.{List}
 use mathlib.Core.Option.{Option, none, some}
@@ -22,7 +22,7 @@ use Rattle.floor.specs.Place.{cells}
 use Rattle.floor.specs.Step.{target, stepCost, stepOf, isTo, allowed, intoOf, graph}
 use Rattle.floor.proofs.Rows.{direction-lt}
 use Rattle.floor.proofs.Allowed.{allowed-is, leads, open-inside}
-use Rattle.floor.proofs.Laws.{step-back-allowed, step-back}
+use Rattle.floor.proofs.Laws.{step-back-allowed, there-and-back}
 
 opposite-twice : (d : ℕ) → d < 8 → opposite (opposite d) ≡ d
 opposite-twice d h = eqb→eq (opposite (opposite d)) d (every-at (λ e. eqb (opposite (opposite e)) e) 8 tt d h)
@@ -48,14 +48,13 @@ module _ (f : Floor) (m : List ℕ) (v d : ℕ) where
       let s = T-and (allowed f m u d) (eqb (target f u d) v) b in
       barred-not f m v (opposite d) r e (subst (λ (w : ℕ). T (allowed f m w (opposite d))) (eqb→eq (target f u d) v (s .1)) (step-back-allowed f m u d (s .0)))))
 
-  pub into-from : (w c : ℕ) → d < 8 → stepOf f m v (opposite d) ≡ To w c → From w (stepCost m d w v) ≡ intoOf f m v d
+  pub into-from : (w c : ℕ) → d < 8 → stepOf f m v (opposite d) ≡ To w c → From w c ≡ intoOf f m v d
   unfolding intoOf
   into-from w c h e =
       let u = target f v (opposite d) in
       let l = leads f m v (opposite d) e in
-      let a = subst (λ (k : ℕ). T (allowed f m u k)) (opposite-twice d h) (step-back-allowed f m v (opposite d) (l .steps)) in
-      let b = subst (λ (k : ℕ). target f u k ≡ v) (opposite-twice d h) (step-back f m v (opposite d) (l .steps)) in
-      rw (T-true (allowed f m u d) a, eq-eqb (target f u d) v b, l .to)
+      let there = leads f m w d (rw (opposite-twice d h) at (there-and-back f m v (opposite d) e)) in
+      rw (← l .to, T-true (allowed f m w d) (there .steps), eq-eqb (target f w d) v (sym (there .to)), there .costs, ← there .to)
 
   -- it leaves a cell of the floor
   pub into-inside : (u c : ℕ) → intoOf f m v d ≡ From u c → (u ≡ target f v (opposite d)) × (u < cells f)

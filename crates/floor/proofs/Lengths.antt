@@ -169,7 +169,7 @@ step-parts d n h = rw (unit-of d h) (go (isDiagonal d))
     go false = omega arith
 
 module _ (f : Floor) (m : List ℕ) where
-  cost-parts : (v : ℕ) (ds : List ℕ) → T (walks (graph f m) v ds) → costOf (graph f m) v ds ≡ 70 * lengthOf f m v ds .whole + 99 * lengthOf f m v ds .root
+  pub cost-parts : (v : ℕ) (ds : List ℕ) → T (walks (graph f m) v ds) → costOf (graph f m) v ds ≡ 70 * lengthOf f m v ds .whole + 99 * lengthOf f m v ds .root
   unfolding stepCost
   cost-parts v [] t = refl
   cost-parts v (d ∷ ds) t =

@@ -1,7 +1,7 @@
 -- Steps: which are allowed, where they lead and what they cost; the floor as a graph.
 use mathlib.Core.Bool.{Bool, true, false, cond, not, _&&_, _||_}
 use mathlib.Core.List.{List}
-use Prim.Native.Nat.{ℕ, _-_, _*_, _%_}
+use Prim.Native.Nat.{ℕ, _+_, _-_, _*_, _%_}
 use lib.Dec.{eqb, ltb}
 use lib.ListN.{getD}
 use Rattle.paths.specs.Graph.{Graph}
@@ -19,21 +19,29 @@ use Rattle.floor.specs.Place.{greatestSide, greatestWeight, cells, place
 unfoldable pub isDirection : Floor → ℕ → Bool
 isDirection f d = ltb d 8 && (eqb (f .ways) 8 || eqb (d % 2) 0)
 
--- the weight that a step from cell v into cell w counts: that of the cell entered
+-- the weight of a step between cells v and w: the sum of the weights of both, since half the step lies on each
 unfoldable pub stepWeight : List ℕ → ℕ → ℕ → ℕ
-stepWeight m v w = getD m w 0
+stepWeight m v w = getD m v 0 + getD m w 0
 
--- a step in direction d costs its unit times that weight
+-- its bounds: both cells are open
+abbrev pub leastStepWeight : ℕ
+leastStepWeight = 2
+
+abbrev pub greatestStepWeight : ℕ
+greatestStepWeight = 2 * greatestWeight
+
+-- a step in direction d costs its unit times its weight
 unfoldable pub stepCost : List ℕ → ℕ → ℕ → ℕ → ℕ
 stepCost m d v w = rowOf d .unit * stepWeight m v w
 
--- the bounds of a step's cost, and of a least cost: the greatest step for each cell but one
+-- the bounds of a step's cost: a straight step of the least weight, a diagonal one of the greatest
 abbrev pub leastStep : ℕ
-leastStep = 70
+leastStep = 70 * leastStepWeight
 
 abbrev pub greatestStep : ℕ
-greatestStep = 99 * greatestWeight
+greatestStep = 99 * greatestStepWeight
 
+-- the bound of a least cost: the greatest step for each cell but one
 abbrev pub greatestCost : ℕ
 greatestCost = (greatestSide * greatestSide - 1) * greatestStep
 

@@ -16,13 +16,13 @@ pub struct Floor {
     pub ways: usize,
 }
 
-// What a straight and a diagonal step cost on a cell of weight 1: 99 / 70 is a little more than the root of 2.
+// What a straight and a diagonal step cost for each unit of their weight: 99 / 70 is a little more than the root of 2.
 pub const STRAIGHT: u32 = 70;
 
 pub const DIAGONAL: u32 = 99;
 
-// No step costs less: a straight one into a cell of weight 1.
-pub const LEAST_STEP: u32 = STRAIGHT;
+// No step costs less: a straight one between two cells of weight 1.
+pub const LEAST_STEP: u32 = STRAIGHT * 2;
 
 // 01: MARK means "no cost".
 pub const MARK: u32 = 4294967295;

@@ -135,14 +135,15 @@ fn widened(weight: u8) -> u32
     weight as u32
 }
 
-// The cost of a step from `cell` into `to`. The weight byte is widened before it is multiplied.
+// The cost of a step from `cell` into `to`. The weight bytes are widened before they are added and multiplied.
 fn step_cost(map: &[u8], cell: usize, to: usize, direction: usize) -> u32
     requires { ⌜ (cell < length (now map)) × (to < length (now map)) × (direction < 8) ⌝ }
     ensures { λ r. ⌜ r ≡ stepCost (now (map .entry)) direction cell to ⌝ }
 {
     let d = direction_at(direction);
-    let weight = widened(map[to]);
-    d.unit * weight
+    let left = widened(map[cell]);
+    let entered = widened(map[to]);
+    d.unit * (left + entered)
 }
 
 // The step test for a cell of the map and a direction of the floor, where the cell is open.
@@ -183,7 +184,7 @@ pub fn step_test(f: Floor, map: &[u8], cell: usize, direction: usize) -> Step
     Step::Barred(Reason::NoSuchDirection)
 }
 
-// The step that enters `cell` in a direction: it leaves the cell that the step back from `cell` enters. It is no entry either.
+// The step that enters `cell` in a direction: it leaves the cell that the step back from `cell` enters, and costs the same. It is no entry either.
 pub fn step_into(f: Floor, map: &[u8], cell: usize, direction: usize) -> Into
     requires { ⌜ HasPassed f (now map) ⌝ }
     ensures { λ r. ⌜ r ≡ intoOf f (now (map .entry)) cell direction ⌝ }
@@ -192,9 +193,8 @@ pub fn step_into(f: Floor, map: &[u8], cell: usize, direction: usize) -> Into
         return Into::Nothing;
     }
     let back = step_test(f, map, cell, (direction + 4) % 8);
-    let Step::To(from, _) = back else {
+    let Step::To(from, cost) = back else {
         return Into::Nothing;
     };
-    let cost = step_cost(map, from, cell, direction);
     Into::From(from, cost)
 }

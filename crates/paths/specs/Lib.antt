@@ -1,5 +1,6 @@
 pub mod Below
 pub mod Graph
+pub mod Mirror
 pub mod Route
 pub mod Table
 pub mod Sum

@@ -1,4 +1,5 @@
--- A unit is at most 99 and a byte below 256, so that their product does not wrap.
+-- A unit is at most 99 and two bytes are together below 512, so that their product does not wrap.
+use Prim.Native.Nat.{_+_, _≤_}
 use native.Mathlib.Nat.{mul-le-mul}
 use native.Mathlib.Omega.{arith}
 use borrow.Author.Needs.{needs}
@@ -16,17 +17,39 @@ shared-slice-read-widened c = search needs
 widened-requires : tie.Need-widened-requires
 widened-requires c κs = search needs
 
+shared-slice-read-widened-2 : tie.Need-shared-slice-read-widened-2
+shared-slice-read-widened-2 c = search needs
+
+widened-requires-2 : tie.Need-widened-requires-2
+widened-requires-2 c κs = search needs
+
+add-result : tie.Need-add-result
+add-result c = search needs
+
 mul-result : tie.Need-mul-result
 mul-result c =
-    let s = c .before .before .before .before .before in
-    rw (c .before .before .before .direction-at .ensures)
-    (omega (arith, mul-le-mul (bounds (s .args .direction) (s .pre .2) .unit) (c .before .widened .ensures .1)))
+    let d = c .before .before .before .before .before in
+    let s = d .before .before in
+    let left = c .before .before .before .widened in
+    let entered = c .before .widened2 in
+    let small : left .result + entered .result ≤ 510 = omega (arith, left .ensures .1, entered .ensures .1) in
+    rw (d .direction-at .ensures) (omega (arith, mul-le-mul (bounds (s .args .direction) (s .pre .2) .unit) small))
 
 returns : tie.Need-returns
 unfolding stepCost stepWeight
-returns c = rw (c .before .before .before .direction-at .ensures, c .before .widened .ensures .0)
+returns c =
+    let d = c .before .before .before .before .before in
+    rw (d .direction-at .ensures, c .before .before .before .widened .ensures .0, c .before .widened2 .ensures .0) (omega arith)
 
 pub step-cost-spec : {M : Type 1} → statement M
 step-cost-spec =
     tie.close
-    (tie.spec direction-at-requires shared-slice-read-widened widened-requires mul-result returns)
+    (tie.spec
+    direction-at-requires
+    shared-slice-read-widened
+    widened-requires
+    shared-slice-read-widened-2
+    widened-requires-2
+    add-result
+    mul-result
+    returns)
