@@ -26,7 +26,7 @@ example = 0 ∷ 0 ∷ 0 ∷ 0 ∷ 2 ∷ 0 ∷ 0 ∷ 0 ∷ 5 ∷ 0 ∷ 0 ∷ 0 �
 pub example-question : (questionIn example ≡ question 0 2 5) × (waysIn example ≡ 8) × (endsInZeros example ≡ true)
 example-question = (refl, refl, refl)
 
-pub example-answer : recordOf (Found 5 280 4) ≡ 1 ∷ 0 ∷ 0 ∷ 0 ∷ 5 ∷ 0 ∷ 0 ∷ 0 ∷ 24 ∷ 1 ∷ 0 ∷ 0 ∷ 4 ∷ 0 ∷ 0 ∷ 0 ∷ []
+pub example-answer : recordOf (Found 5 560 4) ≡ 1 ∷ 0 ∷ 0 ∷ 0 ∷ 5 ∷ 0 ∷ 0 ∷ 0 ∷ 48 ∷ 2 ∷ 0 ∷ 0 ∷ 4 ∷ 0 ∷ 0 ∷ 0 ∷ []
 unfolding recordOf
 example-answer = refl
 

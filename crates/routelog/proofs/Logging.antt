@@ -34,9 +34,9 @@ answer-logged (stopped s c cost) = (rw (number-back c (omega arith), ne-eqb c MA
 abbrev question : List ℕ
 question = 0 ∷ 0 ∷ 0 ∷ 0 ∷ 2 ∷ 0 ∷ 0 ∷ 0 ∷ 5 ∷ 0 ∷ 0 ∷ 0 ∷ 8 ∷ 0 ∷ 0 ∷ 0 ∷ []
 
-pub example-entry : entryBytes (entryOf question (recordOf (Found 5 280 4)) (4 ∷ 2 ∷ 2 ∷ 0 ∷ []))
+pub example-entry : entryBytes (entryOf question (recordOf (Found 5 560 4)) (4 ∷ 2 ∷ 2 ∷ 0 ∷ []))
     ≡ 0 ∷ 0 ∷ 0 ∷ 0 ∷ 2 ∷ 0 ∷ 0 ∷ 0 ∷ 5 ∷ 0 ∷ 0 ∷ 0 ∷ 8 ∷ 0 ∷ 0 ∷ 0
-    ∷ 1 ∷ 0 ∷ 0 ∷ 0 ∷ 5 ∷ 0 ∷ 0 ∷ 0 ∷ 24 ∷ 1 ∷ 0 ∷ 0 ∷ 4 ∷ 0 ∷ 0 ∷ 0
+    ∷ 1 ∷ 0 ∷ 0 ∷ 0 ∷ 5 ∷ 0 ∷ 0 ∷ 0 ∷ 48 ∷ 2 ∷ 0 ∷ 0 ∷ 4 ∷ 0 ∷ 0 ∷ 0
     ∷ 4 ∷ 2 ∷ 2 ∷ 0 ∷ 255 ∷ 255 ∷ 255 ∷ 255 ∷ 255 ∷ 255 ∷ 255 ∷ 255 ∷ 255 ∷ 255 ∷ 255 ∷ 255
     ∷ []
 unfolding entryBytes routeBytes routeSize recordOf

@@ -10,6 +10,7 @@ pub mod FirstHolds
 pub mod SecondHolds
 pub mod ThirdHolds
 pub mod LimitsHold
+pub mod BothCellsHold
 pub mod OneTable
 pub mod AloneHolds
 pub mod Logged

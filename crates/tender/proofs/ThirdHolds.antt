@@ -70,20 +70,20 @@ third-condition = record {
       (numbersOf (y .answer), y .leaves ∙ record-numbers (y .answer), (y .left .route, of-record (y .asked)));
 }
 
--- 01's example: two diagonal steps of weight 1 have T² = 8 and cost 198, and 2 × 198² = 9801 × 8, so the bound is reached
+-- 01's example with the weights that 02's R-3 doubles: two diagonal steps of weight 2 have T² = 32 and cost 396, and 2 × 396² = 9801 × 32, so the bound is reached
 abbrev ones : List ℕ
 ones = replicate 9 1
 
 abbrev square-floor : Floor
 square-floor = record { width = 3; height = 3; ways = 8 }
 
-pub example-length : squared (lengthOf square-floor ones 0 (3 ∷ 3 ∷ [])) ≡ surd 8 0
+pub example-length : squared (lengthOf square-floor ones 0 (3 ∷ 3 ∷ [])) ≡ surd 32 0
 unfolding stepLength stepWeight target
 example-length = refl
 
-pub example-cost : costOf (graph square-floor ones) 0 (3 ∷ 3 ∷ []) ≡ 198
+pub example-cost : costOf (graph square-floor ones) 0 (3 ∷ 3 ∷ []) ≡ 396
 unfolding stepCost stepWeight target
 example-cost = refl
 
-pub example-bound : surd (2 * square 198) 0 ≡ times 9801 (surd 8 0)
+pub example-bound : surd (2 * square 396) 0 ≡ times 9801 (surd 32 0)
 example-bound = refl

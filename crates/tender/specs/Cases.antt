@@ -1,4 +1,4 @@
--- 01, "Floors to try", with case h as 02's R-2 has it: the cases a to l, and what it is that a case holds.
+-- 01, "Floors to try", with case h as 02's R-2 and the costs as R-3 has them: the cases a to l, and what it is that a case holds.
 use mathlib.Core.Path.{_≡_}
 use mathlib.Core.List.{List, [], _∷_}
 use Prim.Native.Nat.{ℕ, _*_}
@@ -65,23 +65,23 @@ refusedCase f m s g k n = record { floor = f; bytes = m; asked = question s g k;
 abbrev pub cases : List Case
 cases =
     -- a: .@./...
-    case (floorOf 3 2 8) (1 ∷ 0 ∷ 1 ∷ 1 ∷ 1 ∷ 1 ∷ []) 0 2 5 (found 5 280 (4 ∷ 2 ∷ 2 ∷ 0 ∷ []))
-    (0 ∷ MARK ∷ 280 ∷ 70 ∷ 140 ∷ 210 ∷ []) (0 ∷ MARK ∷ 280 ∷ 70 ∷ 140 ∷ 210 ∷ [])
+    case (floorOf 3 2 8) (1 ∷ 0 ∷ 1 ∷ 1 ∷ 1 ∷ 1 ∷ []) 0 2 5 (found 5 560 (4 ∷ 2 ∷ 2 ∷ 0 ∷ []))
+    (0 ∷ MARK ∷ 560 ∷ 140 ∷ 280 ∷ 420 ∷ []) (0 ∷ MARK ∷ 560 ∷ 140 ∷ 280 ∷ 420 ∷ [])
     -- b: the same, limit 4
-    ∷ case (floorOf 3 2 8) (1 ∷ 0 ∷ 1 ∷ 1 ∷ 1 ∷ 1 ∷ []) 0 2 4 (stopped 4 280)
-    (0 ∷ MARK ∷ 280 ∷ 70 ∷ 140 ∷ 210 ∷ []) (0 ∷ MARK ∷ MARK ∷ 70 ∷ 140 ∷ 210 ∷ [])
+    ∷ case (floorOf 3 2 8) (1 ∷ 0 ∷ 1 ∷ 1 ∷ 1 ∷ 1 ∷ []) 0 2 4 (stopped 4 560)
+    (0 ∷ MARK ∷ 560 ∷ 140 ∷ 280 ∷ 420 ∷ []) (0 ∷ MARK ∷ MARK ∷ 140 ∷ 280 ∷ 420 ∷ [])
     -- c: .../.../...
-    ∷ case (floorOf 3 3 8) (1 ∷ 1 ∷ 1 ∷ 1 ∷ 1 ∷ 1 ∷ 1 ∷ 1 ∷ 1 ∷ []) 0 8 9 (found 9 198 (3 ∷ 3 ∷ []))
-    (0 ∷ 70 ∷ 140 ∷ 70 ∷ 99 ∷ 169 ∷ 140 ∷ 169 ∷ 198 ∷ []) (0 ∷ 70 ∷ 140 ∷ 70 ∷ 99 ∷ 169 ∷ 140 ∷ 169 ∷ 198 ∷ [])
+    ∷ case (floorOf 3 3 8) (1 ∷ 1 ∷ 1 ∷ 1 ∷ 1 ∷ 1 ∷ 1 ∷ 1 ∷ 1 ∷ []) 0 8 9 (found 9 396 (3 ∷ 3 ∷ []))
+    (0 ∷ 140 ∷ 280 ∷ 140 ∷ 198 ∷ 338 ∷ 280 ∷ 338 ∷ 396 ∷ []) (0 ∷ 140 ∷ 280 ∷ 140 ∷ 198 ∷ 338 ∷ 280 ∷ 338 ∷ 396 ∷ [])
     -- d: the same, 4 ways
-    ∷ case (floorOf 3 3 4) (1 ∷ 1 ∷ 1 ∷ 1 ∷ 1 ∷ 1 ∷ 1 ∷ 1 ∷ 1 ∷ []) 0 8 9 (found 9 280 (4 ∷ 4 ∷ 2 ∷ 2 ∷ []))
-    (0 ∷ 70 ∷ 140 ∷ 70 ∷ 140 ∷ 210 ∷ 140 ∷ 210 ∷ 280 ∷ []) (0 ∷ 70 ∷ 140 ∷ 70 ∷ 140 ∷ 210 ∷ 140 ∷ 210 ∷ 280 ∷ [])
+    ∷ case (floorOf 3 3 4) (1 ∷ 1 ∷ 1 ∷ 1 ∷ 1 ∷ 1 ∷ 1 ∷ 1 ∷ 1 ∷ []) 0 8 9 (found 9 560 (4 ∷ 4 ∷ 2 ∷ 2 ∷ []))
+    (0 ∷ 140 ∷ 280 ∷ 140 ∷ 280 ∷ 420 ∷ 280 ∷ 420 ∷ 560 ∷ []) (0 ∷ 140 ∷ 280 ∷ 140 ∷ 280 ∷ 420 ∷ 280 ∷ 420 ∷ 560 ∷ [])
     -- e: ../.9
-    ∷ case (floorOf 2 2 8) (1 ∷ 1 ∷ 1 ∷ 9 ∷ []) 0 3 4 (found 4 700 (4 ∷ 2 ∷ []))
-    (0 ∷ 70 ∷ 70 ∷ 700 ∷ []) (0 ∷ 70 ∷ 70 ∷ 700 ∷ [])
+    ∷ case (floorOf 2 2 8) (1 ∷ 1 ∷ 1 ∷ 9 ∷ []) 0 3 4 (found 4 840 (4 ∷ 2 ∷ []))
+    (0 ∷ 140 ∷ 140 ∷ 840 ∷ []) (0 ∷ 140 ∷ 140 ∷ 840 ∷ [])
     -- f: .9./...; cell 1 is seen and not settled
-    ∷ case (floorOf 3 2 8) (1 ∷ 9 ∷ 1 ∷ 1 ∷ 1 ∷ 1 ∷ []) 0 2 6 (found 5 198 (3 ∷ 1 ∷ []))
-    (0 ∷ 630 ∷ 198 ∷ 70 ∷ 99 ∷ 169 ∷ []) (0 ∷ MARK ∷ 198 ∷ 70 ∷ 99 ∷ 169 ∷ [])
+    ∷ case (floorOf 3 2 8) (1 ∷ 9 ∷ 1 ∷ 1 ∷ 1 ∷ 1 ∷ []) 0 2 6 (found 5 396 (3 ∷ 1 ∷ []))
+    (0 ∷ 700 ∷ 396 ∷ 140 ∷ 198 ∷ 338 ∷ []) (0 ∷ MARK ∷ 396 ∷ 140 ∷ 198 ∷ 338 ∷ [])
     -- g: .@.
     ∷ case (floorOf 3 1 8) (1 ∷ 0 ∷ 1 ∷ []) 0 2 1 (none 1) (0 ∷ MARK ∷ MARK ∷ []) (0 ∷ MARK ∷ MARK ∷ [])
     -- h: the same, limit 0
@@ -89,9 +89,9 @@ cases =
     -- i: .
     ∷ case (floorOf 1 1 8) (1 ∷ []) 0 0 1 (found 1 0 []) (0 ∷ []) (0 ∷ [])
     -- j: .9
-    ∷ case (floorOf 2 1 8) (1 ∷ 9 ∷ []) 0 1 2 (found 2 630 (2 ∷ [])) (0 ∷ 630 ∷ []) (0 ∷ 630 ∷ [])
+    ∷ case (floorOf 2 1 8) (1 ∷ 9 ∷ []) 0 1 2 (found 2 700 (2 ∷ [])) (0 ∷ 700 ∷ []) (0 ∷ 700 ∷ [])
     -- k: .9, the other way
-    ∷ case (floorOf 2 1 8) (1 ∷ 9 ∷ []) 1 0 2 (found 2 70 (6 ∷ [])) (70 ∷ 0 ∷ []) (70 ∷ 0 ∷ [])
+    ∷ case (floorOf 2 1 8) (1 ∷ 9 ∷ []) 1 0 2 (found 2 700 (6 ∷ [])) (700 ∷ 0 ∷ []) (700 ∷ 0 ∷ [])
     -- l: .@/@.
     ∷ case (floorOf 2 2 8) (1 ∷ 0 ∷ 0 ∷ 1 ∷ []) 0 3 4 (none 1) (0 ∷ MARK ∷ MARK ∷ MARK ∷ []) (0 ∷ MARK ∷ MARK ∷ MARK ∷ [])
     ∷ []

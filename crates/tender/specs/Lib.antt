@@ -5,4 +5,5 @@ pub mod SecondCondition
 pub mod Alone
 pub mod ThirdCondition
 pub mod Limits
+pub mod BothCells
 pub mod RouteLog

@@ -1,0 +1,48 @@
+-- Half the step on each cell: the steps are laws of the floor; an answer's cost or floor is a least cost by 01's table, and the floor bounds those.
+use mathlib.Core.Path.{_∙_}
+use mathlib.Core.List.{List}
+use Prim.Native.Nat.{ℕ}
+use native.Mathlib.Omega.{arith}
+use Rattle.floor.specs.declared.Floor.{Floor}
+use Rattle.floor.proofs.Laws.{step-costs, there-and-back, step-between, least-cost-bound}
+use Rattle.floor.proofs.Lengths.{cost-parts}
+use Rattle.floor.proofs.Questions.{question-passed}
+use Rattle.search.specs.declared.Answer.{Answer}
+use Rattle.search.specs.Search.{Question, Rooms, Searched, refused, passed, numbersOf}
+use Rattle.search.proofs.Lending.{search-question}
+use Rattle.desk.specs.Desk.{Asked, no-zeros, searched, wholeRecords}
+use Rattle.tender.specs.BothCells.{Bounded, BothCells}
+use Rattle.tender.proofs.Rowed.{starts}
+use Rattle.tender.proofs.Tabled.{table-holds}
+use Rattle.tender.proofs.Records.{record-numbers, answered-each}
+
+refusal-bounded : (n p : ℕ) → Bounded (numbersOf (Answer.Refused n p))
+refusal-bounded n p = record { cost = λ k. absurd (omega arith); floor = λ k. absurd (omega arith) }
+
+searched-bounded : {f : Floor} {m : List ℕ} {q : Question} {r : Rooms} {a : Answer} {r′ : Rooms} → Searched f m q r a r′ → Bounded (numbersOf a)
+searched-bounded (refused n p e b k) = rw b (refusal-bounded n p)
+searched-bounded {f} {m} {q} {r} (passed p x) =
+    let table = table-holds x p .3 in
+    let bound = least-cost-bound f m (question-passed f m (q .start) (q .goal) (search-question f m q r p)) (q .start) in
+    record {
+      cost = λ k. bound _ _ (starts x p) (table .found-number (table .found .0 k));
+      floor = λ k. bound _ _ (starts x p) (table .stopped-number (table .stopped .0 k) .2);
+    }
+
+-- a question record: 13 is a refusal too
+asked-bounded : {f : Floor} {m question : List ℕ} {r : Rooms} {a : Answer} {r′ : Rooms} → Asked f m question r a r′ → Bounded (numbersOf a)
+asked-bounded (no-zeros z e k) = rw e (refusal-bounded 13 0)
+asked-bounded (searched z x) = searched-bounded x
+
+pub both-cells : BothCells
+both-cells = record {
+  costs = λ f m v d w c e. step-costs f m v d e;
+  back = λ f m v d w c e. there-and-back f m v d e;
+  between = λ f m p v d w c e. step-between f m p v d e;
+  sums = cost-parts;
+  search = λ f m q r a r′ x. searched-bounded x;
+  call = λ f m q r n r′ x. rw (x .numbers) (searched-bounded (x .searched));
+  records = λ f m bytes r k bytes′ r′ x i h.
+      let y = answered-each f m (wholeRecords bytes) bytes r bytes′ r′ (x .records) i h in
+      (numbersOf (y .answer), y .leaves ∙ record-numbers (y .answer), asked-bounded (y .asked));
+}
