@@ -44,7 +44,7 @@ def endings():
     """Calls that end the program: none of them, and nothing after it, gets a reply."""
     made = wire.Wire()
     plain.search(made, plain.Floor(".@./...", 8), 0, 2, 5, 0)
-    plain.route_claim(made, plain.Floor(".@./...", 8), 0, 2, 280, [4, 2, 2, 0])
+    plain.route_claim(made, plain.Floor(".@./...", 8), 0, 2, 560, [4, 2, 2, 0])
     (_, first, due), (_, second, _) = made.made
     with_number = lambda place, number: second[: 4 * place] + wire.packed([number]) + second[4 * place + 4 :]
     for what in (0, len(wire.ENTRIES) + 1, 4294967295):

@@ -143,7 +143,7 @@ def writing(made, about, question, answer, directions, spare=0):
 QUESTION = bytes.fromhex("00000000020000000500000008000000")  # 01's example
 
 
-def record(kind, refusal=0, settled=5, number=280, length=0):
+def record(kind, refusal=0, settled=5, number=560, length=0):
     return struct.pack("<BBxxIII", kind, refusal, settled, number, length)
 
 
@@ -173,8 +173,8 @@ def spoiled(data, place, byte):
 
 def example_of_01(made):
     """Case a's question, answer and route."""
-    answer = bytes.fromhex("01000000050000001801000004000000")
-    entry = bytes.fromhex("00000000020000000500000008000000 01000000050000001801000004000000 04020200ffffffffffffffffffffffff")
+    answer = bytes.fromhex("01000000050000003002000004000000")
+    entry = bytes.fromhex("00000000020000000500000008000000 01000000050000003002000004000000 04020200ffffffffffffffffffffffff")
     assert written(QUESTION, answer, bytes([4, 2, 2, 0]), 48) == entry
     assert read(entry, 4) == (QUESTION, answer, bytes([4, 2, 2, 0]), 48)
     writing(made, "01's example", QUESTION, answer, bytes([4, 2, 2, 0]))
@@ -224,7 +224,7 @@ def answers():
     yield from (refused(number) for number in (0, 1, 15, 16, 19, 255))
     yield from (spoiled(refused(7), place, 255 if place % 3 else 1) for place in range(2, RECORD))
     yield from (record(4), record(4, number=MARK), record(255, 255, MARK, MARK, MARK), record(128, number=0))
-    for kind, number in ((1, 280), (2, MARK), (3, 280)):
+    for kind, number in ((1, 560), (2, MARK), (3, 560)):
         yield from (spoiled(record(kind, number=number), place, 1 << place) for place in (1, 2, 3))
         yield from (record(kind, settled=settled, number=number) for settled in (0, MARK))
         yield from (record(kind, number=other) for other in (0, 0x00FFFFFF, 0xFFFF00FF, MARK - 1, MARK))
@@ -342,7 +342,7 @@ def joint_refusals(made):
 
 def any_entry(generator):
     question = bytes(generator.randrange(256) for _ in range(RECORD))
-    settled, number = generator.randrange(MARK + 1), generator.choice([0, 280, generator.randrange(MARK), MARK - 1])
+    settled, number = generator.randrange(MARK + 1), generator.choice([0, 560, generator.randrange(MARK), MARK - 1])
     length = generator.choice([0, 1, 3, 14, 15, 16, 17, 20])
     answer = generator.choice([
         refused(generator.randint(1, 15)), record(1, 0, settled, number, length), record(1, 0, settled, number, length),

@@ -1,4 +1,4 @@
-"""A handful of calls, one of each form, with replies written out from the text of 01 and R-2 as plainly as can be: least costs by relaxing every step until
+"""A handful of calls, one of each form, with replies written out from the text of 01, R-2 and R-3 as plainly as can be: least costs by relaxing every step until
 nothing changes, the claims by their rules. Here it is that a call's parts are read in their order and that a reply has all of its own.
 """
 import wire
@@ -28,7 +28,7 @@ class Floor:
             return 43
         if self.weight(x + dx, y) == 0 or self.weight(x, y + dy) == 0:
             return 44
-        return (y + dy) * self.width + x + dx, unit * self.weight(x + dx, y + dy)
+        return (y + dy) * self.width + x + dx, unit * (self.weight(x, y) + self.weight(x + dx, y + dy))
 
     def steps(self):
         """Every allowed step: cell, direction, cell entered, cost."""
@@ -164,7 +164,7 @@ def add_calls(made):
     wide = Floor("/".join(["." * 256] * 3), 8)
     wrong = Floor(".@./...", 8)
     wrong.cells = bytes([1, 0, 1, 10, 1, 11])
-    table = [0, MARK, 280, 70, 140, 210]
+    table = [0, MARK, 560, 140, 280, 420]
     search(made, a, 0, 2, 5, 0)
     search(made, a, 0, 2, 4, 2)
     search(made, d, 0, 8, 9, 1)
@@ -174,11 +174,11 @@ def add_calls(made):
     refused_search(made, wrong, 9, (2, 3, 4), 3, 3)
     refused_search(made, a, 0, (6, 12, 6), 15, 0)
     refused_search(made, a, 0, (6, 12, 5), 11, 0)
-    route_claim(made, a, 0, 2, 280, [4, 2, 2, 0])
-    route_claim(made, a, 0, 2, 281, [4, 2, 2, 0])
-    route_claim(made, l, 0, 3, 99, [3])
+    route_claim(made, a, 0, 2, 560, [4, 2, 2, 0])
+    route_claim(made, a, 0, 2, 561, [4, 2, 2, 0])
+    route_claim(made, l, 0, 3, 198, [3])
     table_claim(made, a, 0, table)
-    table_claim(made, a, 0, table[:5] + [209])
+    table_claim(made, a, 0, table[:5] + [419])
     table_claim(made, a, 0, table + [77])
     reading(made, a, 1)
     refused_reading(made, b"type octile\nheight 2\nwidth 3\nmap\n.@.\n.S.\n", 25, 38)

@@ -1,7 +1,7 @@
 """Maps and question records for the desk, and what is due.
 
 How the expectation is produced: from the text of 01, "The program", with the references of the map text and of the searches.
-The answers to cases a to l are also held to the table of 01, and to R-2 for h. All cases that are not listed one by one come
+The answers to cases a to l are also held to the table of 01, to R-2 for h and to R-3's costs. All cases that are not listed one by one come
 from a generator with a fixed seed.
 """
 import random
@@ -63,17 +63,17 @@ def answers(floor, records, costs, work, route):
 
 # kind, refusal, settled, number, length
 ANSWERS_OF_01 = [
-    (1, 0, 5, 280, 4),
-    (3, 0, 4, 280, 0),
-    (1, 0, 9, 198, 2),
-    (1, 0, 9, 280, 4),
-    (1, 0, 4, 700, 2),
-    (1, 0, 5, 198, 2),
+    (1, 0, 5, 560, 4),
+    (3, 0, 4, 560, 0),
+    (1, 0, 9, 396, 2),
+    (1, 0, 9, 560, 4),
+    (1, 0, 4, 840, 2),
+    (1, 0, 5, 396, 2),
     (2, 0, 1, MARK, 0),
     (0, 15, 0, 0, 0),
     (1, 0, 1, 0, 0),
-    (1, 0, 2, 630, 1),
-    (1, 0, 2, 70, 1),
+    (1, 0, 2, 700, 1),
+    (1, 0, 2, 700, 1),
     (2, 0, 1, MARK, 0),
 ]
 
@@ -86,7 +86,7 @@ def fresh_answers(text, records):
 def cases_of_01():
     """The example record of 01 on case a's map, then each case with its record."""
     small = maptexts.text_of([".@.", "..."])
-    asked, answered = bytes.fromhex("00000000020000000500000008000000"), "01000000050000001801000004000000"
+    asked, answered = bytes.fromhex("00000000020000000500000008000000"), "01000000050000003002000004000000"
     assert fresh_answers(small, asked).hex() == answered
     yield small, asked, 16
     for case, numbers in zip(searches.cases_of_01(), ANSWERS_OF_01, strict=True):

@@ -1,7 +1,7 @@
 """Questions to the search, and what it must answer and leave.
 
-How the expectation is produced: from the text of 01, and of R-2 about limit 0, alone, as plainly as it can be written, and
-with nothing of the search's own code or method. The least costs come from relaxing every step of the map again and again, in
+How the expectation is produced: from the text of 01, of R-2 about limit 0 and of R-3 about what a step costs, alone, as plainly
+as it can be written, and with nothing of the search's own code or method. The least costs come from relaxing every step of the map again and again, in
 sweeps in both directions, until a sweep changes nothing. L is the reachable cells, sorted by cost and cell number; answer,
 settled count and rooms are read off L. The route is walked back from the goal: of the steps that give a cell its cost the one
 with the lowest direction is the last. All cases that are not listed one by one come from a generator with a fixed seed.
@@ -33,7 +33,7 @@ def allowed_step(width, height, ways, cells, cell, direction):
         return None
     if direction % 2 == 1 and (cells[y * width + u] == 0 or cells[v * width + x] == 0):
         return None
-    return to, unit * cells[to]
+    return to, unit * (cells[cell] + cells[to])
 
 
 def steps_of(width, height, ways, cells):
@@ -236,10 +236,10 @@ LIMIT_1 = [
     (".", 0, 0, (1, 1, 0, 0)),
     ("9", 0, 0, (1, 1, 0, 0)),
     (".@./...", 5, 5, (1, 1, 0, 0)),
-    (".@./...", 0, 3, (3, 1, 70, 0)),
-    (".@./...", 0, 2, (3, 1, 70, 0)),
-    ("2.", 1, 0, (3, 1, 140, 0)),
-    (".@9/@@8", 5, 2, (3, 1, 630, 0)),
+    (".@./...", 0, 3, (3, 1, 140, 0)),
+    (".@./...", 0, 2, (3, 1, 140, 0)),
+    ("2.", 1, 0, (3, 1, 210, 0)),
+    (".@9/@@8", 5, 2, (3, 1, 1190, 0)),
     (".@.", 0, 2, (2, 1, MARK, 0)),
     (".@/@.", 0, 3, (2, 1, MARK, 0)),
 ]
@@ -359,7 +359,7 @@ def equal_costs():
     for ways in (4, 8):
         for limit in list(range(1, 30)) + list(range(30, 227, 7)) + [224, 225, 226]:
             cases.append(case_of(side, side, ways, [1] * (side * side), middle, side * side - 1, limit))
-    # all cells around the start enter at the same cost, whatever their direction
+    # all straight steps from the start cost the same, and so do all diagonal ones
     ring = [2, 1, 2, 1, 1, 1, 2, 1, 2]
     for weights in (ring, [9] * 9, [7, 9, 7, 9, 1, 9, 7, 9, 7]):
         for ways in (4, 8):
@@ -386,6 +386,30 @@ def random_floors(generator, count):
         cases.append(
             case_of(width, height, ways, cells, start, goal, limit, costs=size + more, work=2 * size + more, route=size + more)
         )
+    return cases
+
+
+def there_and_back():
+    """R-3: "it is the same piece of floor". Both ways between two cells of weighted floors, whose costs must be the same; heavy ends too, each of which counts
+    as much as the other."""
+    generator = random.Random(3)
+    ends = [(".9", 0, 1), ("9.", 0, 1), ("99", 0, 1), ("9.../...9", 0, 7), ("2../.../..3", 0, 8), ("19/91", 0, 3), ("91/19", 0, 3)]
+    asked = [(drawn(picture, 8, start, goal, MARK)) for picture, start, goal in ends]
+    for _ in range(60):
+        width, height = generator.randint(2, 8), generator.randint(1, 8)
+        size = width * height
+        cells = [generator.choice([0, 1, 2, 5, 8, 9]) for _ in range(size)]
+        start, goal = generator.sample(range(size), 2)
+        cells[start], cells[goal] = generator.choice([1, 9]), generator.choice([1, 9])
+        asked.append(case_of(width, height, 8, cells, start, goal, MARK))
+    cases = []
+    for case in asked:
+        for ways in (4, 8):
+            there = {**case, "ways": ways}
+            back = {**there, "start": case["goal"], "goal": case["start"]}
+            costs = [answer(each, *([0] * each[name] for name in ("costs", "work", "route")))[4] for each in (there, back)]
+            assert costs[0] == costs[1], case
+            cases += [there, back]
     return cases
 
 
@@ -422,7 +446,7 @@ def large_floors():
 
 def all_cases():
     cases = cases_of_01() + single_refusals() + least_limits() + refused_before_15() + joint_refusals() + every_limit() + longer_rooms()
-    cases += rows_and_columns() + equal_costs() + random_floors(random.Random(20), 400) + large_floors()
+    cases += rows_and_columns() + equal_costs() + random_floors(random.Random(20), 400) + large_floors() + there_and_back()
     return cases
 
 

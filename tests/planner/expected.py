@@ -1,7 +1,7 @@
 #!/usr/bin/env python3
 """Makes the program's test: its map (crates/planner/data/floor.map), question records (stdin) and the answers due (stdout).
 
-How the expectation is produced: by the reference of the desk (tests/calls/records.py), which follows 01, "The program", and R-2.
+How the expectation is produced: by the reference of the desk (tests/calls/records.py), which follows 01, "The program", R-2 and R-3.
 Nothing comes from the program or its libraries.
 
     expected.py FOLDER      writes FOLDER/floor.map, FOLDER/stdin and FOLDER/stdout, and prints how many questions there are
@@ -45,7 +45,7 @@ def main():
     text = maptexts.text_of([".@.", "..."])
     asked = list(questions())
     records = b"".join(asked) + asked[0][:15]
-    example = bytes.fromhex("00000000020000000500000008000000"), bytes.fromhex("01000000050000001801000004000000")
+    example = bytes.fromhex("00000000020000000500000008000000"), bytes.fromhex("01000000050000003002000004000000")
     due = output(text, records)
     assert (records[:RECORD], due[:RECORD]) == example
     (folder / "floor.map").write_bytes(text)

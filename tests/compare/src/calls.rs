@@ -1,4 +1,4 @@
-//! Calls of the program `calls` (crates/calls/src/main.rt has the form), and the replies that 01, R-1 and R-2 ask for.
+//! Calls of the program `calls` (crates/calls/src/main.rt has the form), and the replies that 01 and ask for.
 
 use crate::claims::{check_route, check_table, RouteVerdict, TableVerdict};
 use crate::floor::{Floor, Refusal, MARK};

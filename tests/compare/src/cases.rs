@@ -1,5 +1,5 @@
-//! The floors to try of 01, with the answers that 01 gives, and R-2 for case h, and one of them as an entry of R-1's log: the plain planner is
-//! held against these before it is compared with anything.
+//! The floors to try of 01, with the answers that 01 gives, R-2 for case h and R-3 for the costs, and one of them as an entry of R-1's log: the
+//! plain planner is held against these before it is compared with anything.
 
 use crate::calls::{Call, What};
 use crate::claims::{check_route, check_table, RouteVerdict, TableVerdict};
@@ -37,17 +37,17 @@ fn cases() -> Vec<Case> {
     let stopped = |settled, floor| Answer::Stopped { settled, floor };
     let open = ".../.../...";
     vec![
-        Case { name: 'a', map: ".@./...", ways: 8, start: 0, goal: 2, limit: 5, answer: found(5, 280, 4), route: &[4, 2, 2, 0] },
-        Case { name: 'b', map: ".@./...", ways: 8, start: 0, goal: 2, limit: 4, answer: stopped(4, 280), route: &[] },
-        Case { name: 'c', map: open, ways: 8, start: 0, goal: 8, limit: 9, answer: found(9, 198, 2), route: &[3, 3] },
-        Case { name: 'd', map: open, ways: 4, start: 0, goal: 8, limit: 9, answer: found(9, 280, 4), route: &[4, 4, 2, 2] },
-        Case { name: 'e', map: "../.9", ways: 8, start: 0, goal: 3, limit: 4, answer: found(4, 700, 2), route: &[4, 2] },
-        Case { name: 'f', map: ".9./...", ways: 8, start: 0, goal: 2, limit: 6, answer: found(5, 198, 2), route: &[3, 1] },
+        Case { name: 'a', map: ".@./...", ways: 8, start: 0, goal: 2, limit: 5, answer: found(5, 560, 4), route: &[4, 2, 2, 0] },
+        Case { name: 'b', map: ".@./...", ways: 8, start: 0, goal: 2, limit: 4, answer: stopped(4, 560), route: &[] },
+        Case { name: 'c', map: open, ways: 8, start: 0, goal: 8, limit: 9, answer: found(9, 396, 2), route: &[3, 3] },
+        Case { name: 'd', map: open, ways: 4, start: 0, goal: 8, limit: 9, answer: found(9, 560, 4), route: &[4, 4, 2, 2] },
+        Case { name: 'e', map: "../.9", ways: 8, start: 0, goal: 3, limit: 4, answer: found(4, 840, 2), route: &[4, 2] },
+        Case { name: 'f', map: ".9./...", ways: 8, start: 0, goal: 2, limit: 6, answer: found(5, 396, 2), route: &[3, 1] },
         Case { name: 'g', map: ".@.", ways: 8, start: 0, goal: 2, limit: 1, answer: none(1), route: &[] },
         Case { name: 'h', map: ".@.", ways: 8, start: 0, goal: 2, limit: 0, answer: refused(15), route: &[] },
         Case { name: 'i', map: ".", ways: 8, start: 0, goal: 0, limit: 1, answer: found(1, 0, 0), route: &[] },
-        Case { name: 'j', map: ".9", ways: 8, start: 0, goal: 1, limit: 2, answer: found(2, 630, 1), route: &[2] },
-        Case { name: 'k', map: ".9", ways: 8, start: 1, goal: 0, limit: 2, answer: found(2, 70, 1), route: &[6] },
+        Case { name: 'j', map: ".9", ways: 8, start: 0, goal: 1, limit: 2, answer: found(2, 700, 1), route: &[2] },
+        Case { name: 'k', map: ".9", ways: 8, start: 1, goal: 0, limit: 2, answer: found(2, 700, 1), route: &[6] },
         Case { name: 'l', map: ".@/@.", ways: 8, start: 0, goal: 3, limit: 4, answer: none(1), route: &[] },
     ]
 }
@@ -98,7 +98,7 @@ pub fn tried() -> Vec<Call> {
             case.name
         );
         if case.name == 'a' {
-            assert_eq!(rooms.costs, [0, MARK, 280, 70, 140, 210]);
+            assert_eq!(rooms.costs, [0, MARK, 560, 140, 280, 420]);
         }
         calls.push(call);
     }
@@ -132,11 +132,11 @@ fn refused_or_taken() -> Vec<Call> {
     vec![row(256), row(257), ten, blocked]
 }
 
-/// "In l the claimed route 3 is fault 44 at 0; a's table with 210 made 209 breaks first at cell 2."
+/// "In l the claimed route 3 is fault 44 at 0; a's table with 210 made 209 breaks first at cell 2"; R-3: "the check examples double".
 fn claimed() -> Vec<Call> {
-    let mut route = drawn(What::RouteClaim, ".@/@.", 8, 0, 3, 99);
+    let mut route = drawn(What::RouteClaim, ".@/@.", 8, 0, 3, 198);
     route.route = vec![3];
-    let verdict = check_route(route.floor(), &route.map, 0, 3, 99, &route.route);
+    let verdict = check_route(route.floor(), &route.map, 0, 3, 198, &route.route);
     assert_eq!(
         verdict,
         RouteVerdict::Fails(Refusal {
@@ -145,17 +145,17 @@ fn claimed() -> Vec<Call> {
         })
     );
     let mut table = drawn(What::TableClaim, ".@./...", 8, 0, 0, 0);
-    table.table = vec![0, MARK, 280, 70, 140, 209];
+    table.table = vec![0, MARK, 560, 140, 280, 419];
     let verdict = check_table(table.floor(), &table.map, 0, &table.table);
     assert_eq!(verdict, TableVerdict::Breaks(2));
     vec![route, table]
 }
 
-/// 01's question record and answer record of case a, with the route: the last record is "filled up with 255".
+/// 01's question record and answer record of case a, at R-3's cost, with the route: the last record is "filled up with 255".
 fn logged() -> Vec<Call> {
     let entry = Entry {
         question: vec![0, 0, 0, 0, 2, 0, 0, 0, 5, 0, 0, 0, 8, 0, 0, 0],
-        answer: vec![1, 0, 0, 0, 5, 0, 0, 0, 24, 1, 0, 0, 4, 0, 0, 0],
+        answer: vec![1, 0, 0, 0, 5, 0, 0, 0, 48, 2, 0, 0, 4, 0, 0, 0],
         route: vec![4, 2, 2, 0],
     };
     let mut bytes = [&entry.question[..], &entry.answer, &entry.route].concat();

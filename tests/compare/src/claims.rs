@@ -55,10 +55,11 @@ pub fn check_route(
         if let Some(number) = fault_of_step(floor, map, cell, direction) {
             return fails(number, place as u64);
         }
-        cell = floor
+        let entered = floor
             .entered(cell, direction)
             .expect("42 was not the fault");
-        sum += step_cost(map, cell, direction);
+        sum += step_cost(map, cell, entered, direction);
+        cell = entered;
     }
     // "45 not at the goal, 46 cost differs, both with the route's length as place, 45 before 46"
     if cell != goal {

@@ -1,4 +1,4 @@
-//! The floor of 01: directions, the step rule, and the refusals 1 to 8. All numbers are 64 bits wide here, so that nothing wraps.
+//! The floor of 01: directions, the step rule with R-3's cost, and the refusals 1 to 8. All numbers are 64 bits wide here, so that nothing wraps.
 
 pub const MARK: u32 = 4_294_967_295;
 
@@ -86,7 +86,7 @@ impl Floor {
             return None;
         }
         let entered = entered?;
-        Some((entered, step_cost(map, entered, direction)))
+        Some((entered, step_cost(map, cell, entered, direction)))
     }
 
     /// Refusals 1 to 3: all but the reader give them.
@@ -145,8 +145,8 @@ pub fn is_open(map: &[u8], cell: Option<u64>) -> bool {
     }
 }
 
-/// "A step costs its unit times the weight of the cell entered."
-pub fn step_cost(map: &[u8], entered: u64, direction: u64) -> u64 {
+/// "A step now costs its unit times the sum of the weights of both its cells."
+pub fn step_cost(map: &[u8], left: u64, entered: u64, direction: u64) -> u64 {
     let (_, _, unit) = DIRECTIONS[direction as usize];
-    unit * map[entered as usize] as u64
+    unit * (map[left as usize] as u64 + map[entered as usize] as u64)
 }

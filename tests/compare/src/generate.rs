@@ -343,11 +343,11 @@ fn damage_table(random: &mut Random, call: &mut Call) {
         0 => call.table[cell] = value.wrapping_add(1),
         1 => call.table[cell] = value.wrapping_sub(1),
         2 => call.table[cell] = MARK,
-        3 => call.table[cell] = random.below(1000) as u32,
+        3 => call.table[cell] = random.below(2000) as u32,
         // sums with a step from here on go past 32 bits, or meet MARK exactly
         4 => {
             call.table[cell] =
-                MARK - random.one_of(&[1, 69, 70, 71, 98, 99, 100, 140, 630, 891, 892])
+                MARK - random.one_of(&[1, 139, 140, 141, 197, 198, 199, 280, 1260, 1782, 1783])
         }
         5 => lift_all(random, call),
         6 if random.once_in(3) => drop(call.table.pop()),
@@ -358,7 +358,7 @@ fn damage_table(random: &mut Random, call: &mut Call) {
 
 /// Makes some of the cells that are not reached numbers near MARK.
 fn lift_all(random: &mut Random, call: &mut Call) {
-    let base = MARK - random.one_of(&[70, 99, 140, 169, 210, 630, 1000]);
+    let base = MARK - random.one_of(&[140, 198, 280, 338, 420, 1260, 2000]);
     for (value, weight) in call.table.iter_mut().zip(&call.map) {
         if *value == MARK && *weight != 0 && random.once_in(2) {
             *value = base + random.below((MARK - base) as u64 + 1) as u32;

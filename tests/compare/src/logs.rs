@@ -47,7 +47,7 @@ fn any_bytes(random: &mut Random, count: usize) -> Vec<u8> {
 fn any_number(random: &mut Random) -> u32 {
     match random.below(4) {
         0 => random.below(1 << 32) as u32,
-        _ => random.one_of(&[0, 1, 280, MARK - 1, MARK, MARK >> 8, MARK << 8]),
+        _ => random.one_of(&[0, 1, 560, MARK - 1, MARK, MARK >> 8, MARK << 8]),
     }
 }
 

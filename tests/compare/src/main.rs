@@ -1,11 +1,11 @@
-//! Compares the proved programs with an independent planner, written from 01 and 02's alone, on random inputs.
+//! Compares the proved programs with an independent planner, written from 01 and 02's alone, on random inputs.
 //!
 //!     compare SEED COUNT FOLDER CALLS PLANNER [START..]
 //!
 //! COUNT rounds are run, each with its own random numbers. FOLDER is for `floor.map`; CALLS and PLANNER are the programs, and START the words
 //! before them that start a program on this machine. A difference is printed with its input, and the status is 1.
 //!
-//! `floor`, `search`, `claims`, `maptext`, `program` and `log` are the independent planner: to be read beside 01, R-1 and R-2, sentence by
+//! `floor`, `search`, `claims`, `maptext`, `program` and `log` are the independent planner: to be read beside 01 and, sentence by
 //! sentence.
 
 mod calls;
