@@ -24,7 +24,7 @@ extern "C" {
  * be changed for, the minor one with calls, fields at a struct's end or numbers that are new, the patch with all else. It
  * changes here and nowhere else; docs/C.md says what each version brought.
  */
-#define FRADNUMBER_VERSION 10300
+#define FRADNUMBER_VERSION 20000
 
 /*
  * What is wrong: 0, a refusal (1 to 30, and of the route log 61 to 64), a cost table that is not right (40), or a fault in a
@@ -76,7 +76,7 @@ enum fradnumber_number {
  *
  * map: width * height bytes, row by row, 0 blocked, 1 to 9 the weight of an open cell; cell y * width + x is in column x
  * and row y. route: one byte a step, 0 N, 1 NE, 2 E, 3 SE, 4 S, 5 SW, 6 W, 7 NW. A step costs 70, diagonal 99, times the
- * weight of the cell entered.
+ * sum of the weights of the cell it leaves and the cell it enters, so that the step back costs the same.
  *
  * The answer's high half is the number of the refusal or of the fault, 0 if the claim holds; its low half is the place, or
  * the cost if it holds. The lowest refusal that applies is given; then the first faulty step; then 45 before 46. The route

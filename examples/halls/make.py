@@ -136,7 +136,7 @@ def furnace_questions(rows):
     return [
         asked(rows, west, east),  # the story
         asked(rows, west, east, ways=4),
-        asked(rows, east, west),  # back: the cell entered counts, so another cost
+        asked(rows, east, west),  # back, at the same cost: it is the same floor
         asked(rows, west, east, limit=300),
         asked(rows, west, east, limit=0),  # left empty
         asked(rows, (10, 7), (37, 7)),  # from furnace to furnace, past the hottest

@@ -24,17 +24,17 @@ def entry(start, goal, limit, ways, kind, settled, number, route="", refusal=0, 
 
 
 row = (cell(3, 12), cell(43, 12))
-walkway = entry(*row, 4096, 8, FOUND, 527, 3290, "44" + 41 * "2" + "00" + "6")
+walkway = entry(*row, 4096, 8, FOUND, 528, 6510, "44" + 41 * "2" + "00" + "6")
 log = [
     walkway,
-    entry(*row, 300, 8, STOPPED, 300, 1825),
+    entry(*row, 300, 8, STOPPED, 300, 3597),
     entry(cell(2, 20), cell(33, 18), 4096, 8, NONE, 753, MARK),
     entry(cell(24, 15), cell(24, 15), 4096, 8, FOUND, 1, 0),
     entry(cell(10, 4), cell(24, 15), 4096, 8, REFUSED, 0, 0, refusal=7),
     entry(*row, 4096, 8, REFUSED, 0, 0, refusal=13, after=b"\0\0\1"),
     entry(*row, 0, 8, REFUSED, 0, 0, refusal=15),
-    entry(*row, 4096, 8, FOUND, 41, 2800, 40 * "2"),  # drops the surcharge of each warm cell
-    entry(cell(3, 11), cell(4, 10), 4096, 8, FOUND, 4, 99, "1"),  # cuts the corner of the shield
+    entry(*row, 4096, 8, FOUND, 41, 5600, 40 * "2"),  # drops the surcharge of each warm cell
+    entry(cell(3, 11), cell(4, 10), 4096, 8, FOUND, 4, 198, "1"),  # cuts the corner of the shield
     walkway[: 32 + 20],
 ]
 sys.stdout.buffer.write(b"".join(log))

@@ -24,7 +24,7 @@ static void refusals(void)
     expect_claim("a map too short", fradnumber_check_route(3, 2, 8, a, 5, 0, 2, 0, 0, 0), 2, 0);
     expect_claim("no map", fradnumber_check_route(1, 1, 8, 0, 0, 0, 0, 0, 0, 0), 2, 0);
     expect_claim("a weight of 10", fradnumber_check_route(2, 2, 8, heavy, 4, 0, 1, 0, 0, 0), 3, 2);
-    expect_claim("a weight of 9", fradnumber_check_route(2, 1, 8, heavy, 2, 0, 1, 630, (const uint8_t *)"\2", 1), 0, 630);
+    expect_claim("a weight of 9", fradnumber_check_route(2, 1, 8, heavy, 2, 0, 1, 700, (const uint8_t *)"\2", 1), 0, 700);
     expect_claim("five ways", on_a(5, 0, 2, 0, 0, 0), 4, 0);
     expect_claim("260 ways", on_a(260, 0, 2, 0, 0, 0), 4, 0);
     expect_claim("start off the map", on_a(8, 6, 9, 0, 0, 0), 5, 0);
@@ -36,21 +36,35 @@ static void refusals(void)
     expect_claim("one step on one cell", fradnumber_check_route(1, 1, 8, wide, 1, 0, 0, 0, steps, 1), 12, 0);
 }
 
+/* Half of a step lies on each of its cells: cases j and k are the same piece of floor, and neither cell counts alone. */
+static void both_cells(void)
+{
+    static const uint8_t row[2] = {1, 9}, east[1] = {2}, west[1] = {6};
+    static const uint32_t wrong[6] = {70, 140, 350, 630, 699, 1260};
+    uint32_t i;
+    expect_claim("case j", fradnumber_check_route(2, 1, 8, row, 2, 0, 1, 700, east, 1), 0, 700);
+    expect_claim("case k", fradnumber_check_route(2, 1, 8, row, 2, 1, 0, 700, west, 1), 0, 700);
+    for (i = 0; i < 6; i++) {
+        expect_claim("case j at another cost", fradnumber_check_route(2, 1, 8, row, 2, 0, 1, wrong[i], east, 1), 46, 1);
+        expect_claim("case k at another cost", fradnumber_check_route(2, 1, 8, row, 2, 1, 0, wrong[i], west, 1), 46, 1);
+    }
+}
+
 static void claims(void)
 {
     static const uint8_t route[4] = {4, 2, 2, 0}, north[1] = {0}, east[1] = {2}, southeast[1] = {3}, nine[2] = {4, 9};
     static const uint8_t cross[4] = {1, 0, 0, 1};
-    expect_claim("case a", on_a(8, 0, 2, 280, route, 4), 0, 280);
+    expect_claim("case a", on_a(8, 0, 2, 560, route, 4), 0, 560);
     expect_claim("no step and no goal", on_a(8, 0, 0, 0, 0, 0), 0, 0);
     expect_claim("no step, cost 1", on_a(8, 0, 0, 1, 0, 0), 46, 0);
-    expect_claim("a direction above 7", on_a(8, 0, 2, 280, nine, 2), 41, 1);
-    expect_claim("a diagonal with four ways", on_a(4, 0, 4, 99, southeast, 1), 41, 0);
-    expect_claim("leaves the map", on_a(8, 0, 2, 280, north, 1), 42, 0);
-    expect_claim("enters a blocked cell", on_a(8, 0, 2, 280, east, 1), 43, 0);
-    expect_claim("cuts a corner", on_a(8, 0, 2, 280, southeast, 1), 44, 0);
-    expect_claim("case l, route 3", fradnumber_check_route(2, 2, 8, cross, 4, 0, 3, 99, southeast, 1), 44, 0);
+    expect_claim("a direction above 7", on_a(8, 0, 2, 560, nine, 2), 41, 1);
+    expect_claim("a diagonal with four ways", on_a(4, 0, 4, 198, southeast, 1), 41, 0);
+    expect_claim("leaves the map", on_a(8, 0, 2, 560, north, 1), 42, 0);
+    expect_claim("enters a blocked cell", on_a(8, 0, 2, 560, east, 1), 43, 0);
+    expect_claim("cuts a corner", on_a(8, 0, 2, 560, southeast, 1), 44, 0);
+    expect_claim("case l, route 3", fradnumber_check_route(2, 2, 8, cross, 4, 0, 3, 198, southeast, 1), 44, 0);
     expect_claim("elsewhere and at another cost", on_a(8, 0, 2, 0, route, 3), 45, 3);
-    expect_claim("another cost", on_a(8, 0, 2, 279, route, 4), 46, 4);
+    expect_claim("another cost", on_a(8, 0, 2, 559, route, 4), 46, 4);
 }
 
 /* Every cell of 256 by 256 cells of weight 9, row by row and back: 65,535 straight steps. */
@@ -63,15 +77,19 @@ static void longest(void)
         for (i = 0; i < 255; i++) route[n++] = row % 2 == 0 ? 2 : 6;
         route[n++] = 4;
     }
-    expect_claim("the longest route", fradnumber_check_route(256, 256, 8, map, 65536, 0, 65280, 41287050, route, 65535), 0, 41287050);
-    expect_claim("one step more", fradnumber_check_route(256, 256, 8, map, 65536, 0, 65280, 41287050, route, 65536), 12, 0);
+    expect_claim("the longest route", fradnumber_check_route(256, 256, 8, map, 65536, 0, 65280, 82574100, route, 65535), 0, 82574100);
+    expect_claim("one step more", fradnumber_check_route(256, 256, 8, map, 65536, 0, 65280, 82574100, route, 65536), 12, 0);
     route[65534] = 7;
-    expect_claim("its last step", fradnumber_check_route(256, 256, 4, map, 65536, 0, 65280, 41287050, route, 65535), 41, 65534);
+    expect_claim("its last step", fradnumber_check_route(256, 256, 4, map, 65536, 0, 65280, 82574100, route, 65535), 41, 65534);
+    for (i = 0; i < 65535; i++) route[i] = i % 2 == 0 ? 3 : 7;
+    expect_claim("the greatest cost", fradnumber_check_route(256, 256, 8, map, 65536, 0, 257, 116783370, route, 65535), 0, 116783370);
+    expect_claim("one more than it", fradnumber_check_route(256, 256, 8, map, 65536, 0, 257, 116783371, route, 65535), 46, 65535);
 }
 
 int main(void)
 {
     refusals();
+    both_cells();
     claims();
     longest();
     return end_of_test("route check");

@@ -7,7 +7,7 @@
 
 /* Case a of the customer's paper: .@. over ... */
 static const uint8_t a[6] = {1, 0, 1, 1, 1, 1};
-static const uint32_t right[6] = {0, MARK, 280, 70, 140, 210};
+static const uint32_t right[6] = {0, MARK, 560, 140, 280, 420};
 
 static uint64_t on_a(uint32_t ways, uint32_t start, const uint32_t *costs, size_t length)
 {
@@ -22,7 +22,7 @@ static void refusals(void)
     uint32_t i;
     for (i = 0; i < 257; i++) {
         wide[i] = 1;
-        steps[i] = 70 * i;
+        steps[i] = 140 * i;
     }
     expect_claim("width 0", fradnumber_check_table(0, 2, 8, a, 6, 0, right, 6), FRADNUMBER_BAD_SIDE, 0);
     expect_claim("height 257", fradnumber_check_table(1, 257, 8, wide, 257, 0, steps, 257), FRADNUMBER_BAD_SIDE, 0);
@@ -51,14 +51,14 @@ static uint64_t with(uint32_t cell, uint32_t value)
 static void tables(void)
 {
     static const uint8_t row[3] = {1, 0, 1};
-    static const uint32_t alone[3] = {0, MARK, MARK}, longer[8] = {0, MARK, 280, 70, 140, 210, 1, 2}, nothing[6] = {MARK, MARK, MARK, MARK, MARK, MARK};
+    static const uint32_t alone[3] = {0, MARK, MARK}, longer[8] = {0, MARK, 560, 140, 280, 420, 1, 2}, nothing[6] = {MARK, MARK, MARK, MARK, MARK, MARK};
     expect_claim("case a", on_a(8, 0, right, 6), FRADNUMBER_HOLDS, 0);
     expect_claim("four ways too", on_a(4, 0, right, 6), FRADNUMBER_HOLDS, 0);
     expect_claim("costs past the map", on_a(8, 0, longer, 8), FRADNUMBER_HOLDS, 0);
     expect_claim("a claimed none", fradnumber_check_table(3, 1, 8, row, 3, 0, alone, 3), FRADNUMBER_HOLDS, 0);
-    expect_claim("210 made 209", with(5, 209), FRADNUMBER_BREAKS_RULE, 2);
+    expect_claim("420 made 419", with(5, 419), FRADNUMBER_BREAKS_RULE, 2);
     expect_claim("the start not 0", with(0, 1), FRADNUMBER_BREAKS_RULE, 0);
-    expect_claim("a blocked cell with a cost", with(1, 70), FRADNUMBER_BREAKS_RULE, 1);
+    expect_claim("a blocked cell with a cost", with(1, 140), FRADNUMBER_BREAKS_RULE, 1);
     expect_claim("a reachable cell with MARK", with(2, MARK), FRADNUMBER_BREAKS_RULE, 2);
     expect_claim("MARK everywhere", on_a(8, 0, nothing, 6), FRADNUMBER_BREAKS_RULE, 0);
     expect_claim("the table of another start", on_a(8, 3, right, 6), FRADNUMBER_BREAKS_RULE, 0);

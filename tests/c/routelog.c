@@ -13,11 +13,11 @@ typedef char written_laid_out[sizeof(struct fradnumber_entry_written) == 24 ? 1 
 
 static uint8_t file[ROOM], route[ROOM], room[ROOM];
 
-static const struct fradnumber_answer stopped = {FRADNUMBER_STOPPED, 0, 0, 4, 280, 0}, none = {FRADNUMBER_NONE, 0, 0, 1, FRADNUMBER_MARK, 0};
+static const struct fradnumber_answer stopped = {FRADNUMBER_STOPPED, 0, 0, 4, 560, 0}, none = {FRADNUMBER_NONE, 0, 0, 1, FRADNUMBER_MARK, 0};
 
 static struct fradnumber_answer found(uint32_t length)
 {
-    struct fradnumber_answer answer = {FRADNUMBER_FOUND, 0, 0, 5, 280, 0};
+    struct fradnumber_answer answer = {FRADNUMBER_FOUND, 0, 0, 5, 560, 0};
     answer.length = length;
     return answer;
 }
@@ -157,19 +157,19 @@ static void bad_answers(void)
 {
     const struct fradnumber_answer good[4] = {refused(1), found(4), none, stopped};
     size_t kind, i;
-    bad_numbers("a kind of 4", 4, 0, 280, 0);
-    bad_numbers("a kind of 255", 255, 0, 280, 0);
+    bad_numbers("a kind of 4", 4, 0, 560, 0);
+    bad_numbers("a kind of 255", 255, 0, 560, 0);
     bad_numbers("refused, with no number", 0, 0, 0, 0);
     bad_numbers("refused as 16", 0, 16, 0, 0);
     bad_numbers("refused as 255", 0, 255, 0, 0);
     bad_numbers("found at MARK", 1, 0, FRADNUMBER_MARK, 4);
-    bad_numbers("found with 4096 steps", 1, 0, 280, 4096);
-    bad_numbers("found with a step too many", 1, 0, 280, FRADNUMBER_LONGEST_LOGGED + 1);
-    bad_numbers("found with 2^31 steps", 1, 0, 280, 2147483648u);
+    bad_numbers("found with 4096 steps", 1, 0, 560, 4096);
+    bad_numbers("found with a step too many", 1, 0, 560, FRADNUMBER_LONGEST_LOGGED + 1);
+    bad_numbers("found with 2^31 steps", 1, 0, 560, 2147483648u);
     bad_numbers("none, with another number than MARK", 2, 0, FRADNUMBER_MARK - 1, 0);
     bad_numbers("none, with a step", 2, 0, FRADNUMBER_MARK, 1);
     bad_numbers("stopped at MARK", 3, 0, FRADNUMBER_MARK, 0);
-    bad_numbers("stopped, with 2^24 steps", 3, 0, 280, 16777216);
+    bad_numbers("stopped, with 2^24 steps", 3, 0, 560, 16777216);
     for (kind = 0; kind < 4; kind++)
         for (i = kind == FRADNUMBER_REFUSED ? 2 : 1; i < (kind == FRADNUMBER_REFUSED ? 16u : 4u); i++) {
             lay(file, good[kind], 48);
@@ -222,7 +222,7 @@ static void changes(void)
         {17, 18, 1, 48, 4, 62}, {18, 19, 1, 48, 4, 62}, {24, 28, 255, 48, 4, 62}, {24, 28, 255, 32, 4, 62}, {28, 29, 17, 48, 17, 61},
         {28, 29, 3, 48, 4, 63}, {28, 29, 5, 48, 5, 63}, {32, 33, 8, 48, 4, 63}, {47, 48, 0, 48, 4, 63}, {32, 33, 8, 47, 4, 61},
         {47, 48, 0, 47, 4, 61}, {0, 0, 0, 48, 3, 64}, {32, 33, 8, 48, 3, 63}};
-    static const uint8_t entry[48] = {0, 0, 0, 0, 2, 0, 0, 0, 5, 0, 0, 0, 8, 0, 0, 0, 1, 0, 0, 0, 5, 0, 0, 0, 24, 1, 0, 0, 4, 0, 0, 0,
+    static const uint8_t entry[48] = {0, 0, 0, 0, 2, 0, 0, 0, 5, 0, 0, 0, 8, 0, 0, 0, 1, 0, 0, 0, 5, 0, 0, 0, 48, 2, 0, 0, 4, 0, 0, 0,
                                       4, 2, 2, 0, 255, 255, 255, 255, 255, 255, 255, 255, 255, 255, 255, 255};
     size_t i, at;
     for (i = 0; i < sizeof change / sizeof change[0]; i++) {
@@ -291,7 +291,7 @@ static void files(void)
 static void records(void)
 {
     static const uint8_t asked[16] = {0, 0, 0, 0, 2, 0, 0, 0, 5, 0, 0, 0, 8, 0, 0, 0};
-    static const uint8_t answered[16] = {1, 0, 0, 0, 5, 0, 0, 0, 24, 1, 0, 0, 4, 0, 0, 0};
+    static const uint8_t answered[16] = {1, 0, 0, 0, 5, 0, 0, 0, 48, 2, 0, 0, 4, 0, 0, 0};
     static const uint8_t numbers[16] = {4, 3, 2, 1, 255, 255, 255, 255, 0, 0, 0, 128, 8, 1, 0, 0}, not_asked[16] = {0, 13};
     static const uint8_t unreached[16] = {2, 0, 0, 0, 1, 0, 0, 0, 255, 255, 255, 255};
     uint8_t record[16];

@@ -53,13 +53,26 @@ static struct fradnumber_answer on_a(uint32_t limit)
 
 static void answers(void)
 {
-    static const uint32_t all[6] = {0, FRADNUMBER_MARK, 280, 70, 140, 210}, four[6] = {0, FRADNUMBER_MARK, FRADNUMBER_MARK, 70, 140, 210};
+    static const uint32_t all[6] = {0, FRADNUMBER_MARK, 560, 140, 280, 420}, four[6] = {0, FRADNUMBER_MARK, FRADNUMBER_MARK, 140, 280, 420};
     static const uint8_t steps[4] = {4, 2, 2, 0};
-    expect("case a", on_a(5), FRADNUMBER_FOUND, 0, 0, 5, 280, 4);
+    expect("case a", on_a(5), FRADNUMBER_FOUND, 0, 0, 5, 560, 4);
     expect_rooms("case a", all, 6, 12, steps, 4);
-    expect("case a, limit 2^32 - 1", on_a(4294967295u), FRADNUMBER_FOUND, 0, 0, 5, 280, 4);
-    expect("case b", on_a(4), FRADNUMBER_STOPPED, 0, 0, 4, 280, 0);
+    expect("case a, limit 2^32 - 1", on_a(4294967295u), FRADNUMBER_FOUND, 0, 0, 5, 560, 4);
+    expect("case b", on_a(4), FRADNUMBER_STOPPED, 0, 0, 4, 560, 0);
     expect_rooms("case b", four, 6, 12, steps, 0);
+}
+
+/* Half of a step lies on each of its cells: cases j and k are the same piece of floor. */
+static void both_cells(void)
+{
+    static const uint8_t row[2] = {1, 9}, east[1] = {2}, west[1] = {6};
+    static const uint32_t there[2] = {0, 700}, back[2] = {700, 0};
+    fill_rooms();
+    expect("case j", fradnumber_search(2, 1, 8, row, 2, 0, 1, 2, costs, ROOM, work, ROOM, route, ROOM), FRADNUMBER_FOUND, 0, 0, 2, 700, 1);
+    expect_rooms("case j", there, 2, 4, east, 1);
+    fill_rooms();
+    expect("case k", fradnumber_search(2, 1, 8, row, 2, 1, 0, 2, costs, ROOM, work, ROOM, route, ROOM), FRADNUMBER_FOUND, 0, 0, 2, 700, 1);
+    expect_rooms("case k", back, 2, 4, west, 1);
 }
 
 /* Limit 1 settles the start and nothing else. */
@@ -67,7 +80,7 @@ static void limit_one(void)
 {
     static const uint32_t start[6] = {0, FRADNUMBER_MARK, FRADNUMBER_MARK, FRADNUMBER_MARK, FRADNUMBER_MARK, FRADNUMBER_MARK};
     static const uint8_t row[3] = {1, 0, 1};
-    expect("case a, limit 1", on_a(1), FRADNUMBER_STOPPED, 0, 0, 1, 70, 0);
+    expect("case a, limit 1", on_a(1), FRADNUMBER_STOPPED, 0, 0, 1, 140, 0);
     expect_rooms("case a, limit 1", start, 6, 12, route, 0);
     fill_rooms();
     expect("from 0 to 0, limit 1", fradnumber_search(3, 2, 8, a, 6, 0, 0, 1, costs, ROOM, work, ROOM, route, ROOM), FRADNUMBER_FOUND, 0, 0, 1, 0, 0);
@@ -112,6 +125,7 @@ static void refusals(uint32_t limit)
 int main(void)
 {
     answers();
+    both_cells();
     limit_one();
     limit_zero();
     refusals(5);
