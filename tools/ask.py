@@ -38,12 +38,12 @@ FAILED = 2
 HELP = """\
 MAP is map text: 'type octile', 'height H', 'width W', 'map', then H rows of W cells, each line ended by LF. A cell is
 . or G (weight 1), 1 to 9 (its weight), or @, O or T (blocked). Sides go up to 256; the program planner takes sides up to
-64, and beyond that the library answers alone. A step costs 70, diagonally 99, times the weight of the cell entered; no
-corner is cut. x grows east and y south, from 0.
+64, and beyond that the library answers alone. A step costs 70, diagonally 99, times its weight, which is the sum of the
+weights of the cell it leaves and the cell it enters; no corner is cut. x grows east and y south, from 0.
 
 one question
   ./run MAP --from x,y --to x,y
-  The answer is one of: found, with its cost, steps, and true length P + Q*sqrt(2), where P and Q are the entered weights
+  The answer is one of: found, with its cost, steps, and true length P + Q*sqrt(2), where P and Q sum the steps' weights,
   over straight and over diagonal steps; none; stopped, when the limit of settled cells came before the goal, with the
   floor: no route to the goal costs less; refused, with the reason. The picture shows the floor, the settled cells by
   cost, and the route. It needs 6 columns more than the map is wide. For negative numbers write --from=-1,5.

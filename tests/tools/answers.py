@@ -9,19 +9,19 @@ import reference
 from common import HALLS, HERE, ROOT, bare, expect, expect_run, run, text_of, written
 from pictures import Svg, expect_picture, expect_svg, floor_due
 
-# 01's cases, h as R-2 has it: map, ways, from, to, limit, and what is said. The map's rows are parted by /.
+# 01's cases, h as R-2 and the costs as R-3 has them: map, ways, from, to, limit, and what is said. The map's rows are parted by /.
 CASES = {
-    "a": (".@./...", 8, "0,0", "2,0", 5, ["found at cost 280 in 4 steps; 5 cells settled", "true length 4 + 0√2 = 4.000", "route: 1 S, 2 E, 1 N"]),
-    "b": (".@./...", 8, "0,0", "2,0", 4, ["stopped after 4 cells at floor 280"]),
-    "c": (".../.../...", 8, "0,0", "2,2", 9, ["found at cost 198 in 2 steps; 9 cells", "true length 0 + 2√2 = 2.828", "route: 2 SE"]),
-    "d": (".../.../...", 4, "0,0", "2,2", 9, ["found at cost 280 in 4 steps; 9 cells", "route: 2 S, 2 E"]),
-    "e": ("../.9", 8, "0,0", "1,1", 4, ["found at cost 700 in 2 steps; 4 cells", "true length 10 + 0√2 = 10.000", "route: 1 S, 1 E"]),
-    "f": (".9./...", 8, "0,0", "2,0", 6, ["found at cost 198 in 2 steps; 5 cells", "route: 1 SE, 1 NE"]),
+    "a": (".@./...", 8, "0,0", "2,0", 5, ["found at cost 560 in 4 steps; 5 cells settled", "true length 8 + 0√2 = 8.000; a straight step", "route: 1 S, 2 E, 1 N"]),
+    "b": (".@./...", 8, "0,0", "2,0", 4, ["stopped after 4 cells at floor 560"]),
+    "c": (".../.../...", 8, "0,0", "2,2", 9, ["found at cost 396 in 2 steps; 9 cells", "true length 0 + 4√2 = 5.657; a straight step", "route: 2 SE"]),
+    "d": (".../.../...", 4, "0,0", "2,2", 9, ["found at cost 560 in 4 steps; 9 cells", "route: 2 S, 2 E"]),
+    "e": ("../.9", 8, "0,0", "1,1", 4, ["found at cost 840 in 2 steps; 4 cells", "true length 12 + 0√2 = 12.000; a straight step", "route: 1 S, 1 E"]),
+    "f": (".9./...", 8, "0,0", "2,0", 6, ["found at cost 396 in 2 steps; 5 cells", "true length 0 + 4√2 = 5.657", "route: 1 SE, 1 NE"]),
     "g": (".@.", 8, "0,0", "2,0", 1, ["none: no route leads to the goal; 1 cell settled"]),
     "h": (".@.", 8, "0,0", "2,0", 0, ["refused 15: the limit is 0 (left empty?), and must be at least 1", "leave out --limit to search the whole map"]),
-    "i": (".", 8, "0,0", "0,0", 1, ["found at cost 0 in 0 steps; 1 cell settled", "true length 0 + 0√2 = 0.000", "B start and goal"]),
-    "j": (".9", 8, "0,0", "1,0", 2, ["found at cost 630 in 1 step; 2 cells"]),
-    "k": (".9", 8, "1,0", "0,0", 2, ["found at cost 70 in 1 step; 2 cells", "route: 1 W"]),
+    "i": (".", 8, "0,0", "0,0", 1, ["found at cost 0 in 0 steps; 1 cell settled", "true length 0 + 0√2 = 0.000; a straight step", "B start and goal"]),
+    "j": (".9", 8, "0,0", "1,0", 2, ["found at cost 700 in 1 step; 2 cells", "true length 10 + 0√2 = 10.000", "route: 1 E"]),
+    "k": (".9", 8, "1,0", "0,0", 2, ["found at cost 700 in 1 step; 2 cells", "true length 10 + 0√2 = 10.000", "route: 1 W"]),
     "l": (".@/@.", 8, "0,0", "1,1", 4, ["none: no route leads to the goal; 1 cell settled"]),
 }
 
@@ -47,7 +47,7 @@ def test_stored_text(folder):
     _, out, _ = run(words)
     expect("case a as stored", out == stored, out)
     _, out, _ = run(words, env={"PYTHONIOENCODING": "ascii"})
-    expect("case a in plain characters", out.isascii() and "true length 4 + 0 sqrt(2)" in out and "|> > ^ |" in out, out)
+    expect("case a in plain characters", out.isascii() and "true length 8 + 0 sqrt(2) = 8.000; a straight step on level floor is 2\n" in out and "|> > ^ |" in out, out)
     _, out, _ = run([*words[:-1], "always"])
     expect("case a in colour", "\033[" in out and bare(out) == stored, out)
     print("tools: case a as stored, in colour, in plain characters")
@@ -207,7 +207,7 @@ def test_usage(folder):
         expect_run(words, 2, [], ["./run: ", complained])
     expect_run(["--help"], 0, ["usage: ./run", "exit status", "--replay QUESTIONS", "examples", "sqrt(2)", "settle at most N cells, N at least 1"])
     header = (ROOT / "include" / "fradnumber.h").read_text(encoding="utf-8")
-    expect_run(["--version"], 0, ["fradnumber 1.3.0"] if "FRADNUMBER_VERSION 10300" in header else ["fradnumber"])
+    expect_run(["--version"], 0, ["fradnumber 2.0.0"] if "FRADNUMBER_VERSION 20000" in header else ["fradnumber"])
     print("tools: wrong usage and missing files")
 
 
@@ -242,6 +242,16 @@ def test_large_floors(folder):
 # ---- objects
 
 
+def sums_due(weights, start, route):
+    """P and Q of a route: both cells' weights of its straight steps and of its diagonal ones, straight ones first."""
+    x, y, due = start % len(weights[0]), start // len(weights[0]), [0, 0]
+    for direction in route:
+        dx, dy = reference.STEPS[direction]
+        due[direction % 2] += weights[y][x] + weights[y + dy][x + dx]
+        x, y = x + dx, y + dy
+    return due
+
+
 def test_json(folder):
     for name, (rows, ways, start, goal, limit, said) in CASES.items():
         path = written(folder, f"case_{name}.map", text_of(rows))
@@ -258,6 +268,7 @@ def test_json(folder):
             route = reference.first_route(weights, ways, reference.least_costs(weights, ways, begin), begin, end)
             expect(f"case {name}: cost and route", (told["cost"], told["steps"], told["route"], told["checked"]) == (number, length, route, True), told)
             expect(f"case {name}: its sums", 70 * told["p"] + 99 * told["q"] == number, told)
+            expect(f"case {name}: P and Q", [told["p"], told["q"]] == sums_due(weights, begin, route), told)
             expect(f"case {name}: true length", math.isclose(told["true_length"], told["p"] + told["q"] * math.sqrt(2)), told)
         if kind == 3:
             expect(f"case {name}: floor", told["floor"] == number, told)
@@ -271,18 +282,21 @@ def test_json(folder):
 A = ".@./..."
 # map, ways, from, to, route, cost, what is said, and the cell where it goes wrong: docs/MANUAL.md, "Claimed routes"
 CLAIMS = (
-    (A, 8, (0, 0), (2, 0), "4220", 280, "the claim holds: 4 steps at cost 280", None),
-    (A, 4, (0, 0), (2, 0), "1 S, 2 E, 1 N", 280, "the claim holds: 4 steps at cost 280", None),
-    (A, 8, (0, 0), (2, 0), "s e e n", 280, "the claim holds: 4 steps at cost 280", None),
-    (A, 8, (0, 0), (2, 0), "4220", 281, "fault 46 after all 4 steps: the route costs something else", None),
-    (A, 8, (0, 0), (2, 0), "422", 210, "fault 45 after all 3 steps: the route does not end at the goal", (2, 1)),
-    (A, 8, (0, 0), (2, 0), "421", 280, "fault 44 at step 3, NE from (1,1): a step cuts a corner", (2, 0)),
-    (A, 8, (0, 0), (2, 0), "2", 280, "fault 43 at step 1, E from (0,0): a step enters a blocked cell", (1, 0)),
-    (A, 8, (0, 0), (2, 0), "0", 280, "fault 42 at step 1, N from (0,0): a step leaves the map", (0, 0)),
-    (A, 8, (0, 0), (2, 0), "48", 280, "fault 41 at step 2, 8 from (0,1): a direction is above 7", (0, 1)),
-    (A, 4, (0, 0), (2, 0), "421", 280, "fault 41 at step 3, NE from (1,1): a direction is above 7, or odd with four ways", (1, 1)),
-    ("....", 8, (0, 0), (2, 0), "226", 210, "fault 45 after all 3 steps", (1, 0)),
+    (A, 8, (0, 0), (2, 0), "4220", 560, "the claim holds: 4 steps at cost 560", None),
+    (A, 4, (0, 0), (2, 0), "1 S, 2 E, 1 N", 560, "the claim holds: 4 steps at cost 560", None),
+    (A, 8, (0, 0), (2, 0), "s e e n", 560, "the claim holds: 4 steps at cost 560", None),
+    (A, 8, (0, 0), (2, 0), "4220", 561, "fault 46 after all 4 steps: the route costs something else", None),
+    (A, 8, (0, 0), (2, 0), "422", 420, "fault 45 after all 3 steps: the route does not end at the goal", (2, 1)),
+    (A, 8, (0, 0), (2, 0), "421", 560, "fault 44 at step 3, NE from (1,1): a step cuts a corner", (2, 0)),
+    (A, 8, (0, 0), (2, 0), "2", 560, "fault 43 at step 1, E from (0,0): a step enters a blocked cell", (1, 0)),
+    (A, 8, (0, 0), (2, 0), "0", 560, "fault 42 at step 1, N from (0,0): a step leaves the map", (0, 0)),
+    (A, 8, (0, 0), (2, 0), "48", 560, "fault 41 at step 2, 8 from (0,1): a direction is above 7", (0, 1)),
+    (A, 4, (0, 0), (2, 0), "421", 560, "fault 41 at step 3, NE from (1,1): a direction is above 7, or odd with four ways", (1, 1)),
+    ("....", 8, (0, 0), (2, 0), "226", 420, "fault 45 after all 3 steps", (1, 0)),
     ("2.3.", 8, (0, 0), (0, 0), "", 0, "the claim holds: 0 steps at cost 0", None),
+    (".9", 8, (0, 0), (1, 0), "2", 700, "the claim holds: 1 step at cost 700", None),
+    (".9", 8, (1, 0), (0, 0), "6", 700, "the claim holds: 1 step at cost 700", None),
+    (".9", 8, (0, 0), (1, 0), "2", 630, "fault 46 after all 1 step: the route costs something else", None),
 )
 
 

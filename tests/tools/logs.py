@@ -28,7 +28,7 @@ def records(data):
     return [data[at : at + 16] for at in range(0, len(data), 16)]
 
 
-CASE_A = reference.entry(asked(0, 2, 5), answered(1, 5, 280, 4), (4, 2, 2, 0))
+CASE_A = reference.entry(asked(0, 2, 5), answered(1, 5, 560, 4), (4, 2, 2, 0))
 NONE = reference.entry(asked(0, 2), answered(2, 1, 4294967295))
 REFUSED = reference.entry(asked(0, 9, ways=7, zeros=b"\1\2\3"), answered(0, refusal=13))
 
@@ -59,7 +59,7 @@ def test_logged(folder):
     expect("a replay as logged", log.read_bytes() == due, log.read_bytes().hex(" "))
     words = [FURNACE, "--from", "3,12", "--to", "43,12", "--log", log]
     one = reference.entry_on(text, asked(12 * 48 + 3, 12 * 48 + 43))
-    expect_run([*words, "--quiet"], 0, ["found at cost 3290", f"logged in {log} as entry 19, bytes {len(due)} to {len(due) + len(one) - 1}"])
+    expect_run([*words, "--quiet"], 0, ["found at cost 6510", f"logged in {log} as entry 19, bytes {len(due)} to {len(due) + len(one) - 1}"])
     expect("a question as logged", log.read_bytes() == due + one)
     told = json.loads(expect_run([*words[:-3], "1,24", "--log", log, "--json"], 1))
     two = reference.entry_on(text, asked(12 * 48 + 3, 4294967295))
@@ -113,7 +113,7 @@ def test_shown(folder):
     log = written(folder, "three.log", CASE_A + NONE + REFUSED)
     out = read(log, 0, [
         "three.log; without a map cells are numbers, and nothing is checked or asked again\n",
-        "   1  cell 0 to cell 2, 8 ways, limit 5\n      found at cost 280 in 4 steps; 5 cells settled\n      route: 1 S, 2 E, 1 N\n",
+        "   1  cell 0 to cell 2, 8 ways, limit 5\n      found at cost 560 in 4 steps; 5 cells settled\n      route: 1 S, 2 E, 1 N\n",
         "   2  cell 0 to cell 2, 8 ways, no limit\n      none: no route leads to the goal",
         "   3  cell 0 to cell 9, 7 ways, no limit, last bytes 01 02 03\n      refused 13: ", "3 entries in 112 bytes\n",
     ])
@@ -121,7 +121,7 @@ def test_shown(folder):
     same = written(folder, "same.log", CASE_A + REFUSED + CASE_A)
     hall = written(folder, "a.map", text_of(A))
     read(same, 0, [
-        "a.map: 3 wide, 2 high; same.log, asked again and answered by the program\n", "   1  (0,0) to (2,0), 8 ways, limit 5\n      found at cost 280",
+        "a.map: 3 wide, 2 high; same.log, asked again and answered by the program\n", "   1  (0,0) to (2,0), 8 ways, limit 5\n      found at cost 560",
         "(0,0) to cell 9 (off the map), 7 ways, no limit, last bytes 01 02 03", "3 entries in 128 bytes; 2 routes checked; 0 routes are wrong; 0 entries differ\n",
     ], [hall])
     quiet = read(same, 0, ["3 entries in 128 bytes; 2 routes checked"], [hall, "--quiet"])
@@ -157,8 +157,8 @@ def test_long_logs(folder):
 # Each is a rest that no entry begins, its refusal, and how much of an entry there is.
 TORN = (
     (CASE_A[:47], 61, "47 bytes"), (CASE_A[:1], 61, "1 byte"), (CASE_A[:16], 61, "16 bytes"), (NONE[:31], 61, "31 bytes"),
-    (reference.entry(asked(0, 2), answered(0, refusal=16)), 62, None), (reference.entry(asked(0, 2), answered(1, 5, 280, 4096)), 62, None),
-    (CASE_A[:32], 61, "32 bytes"), (reference.entry(asked(0, 2), answered(1, 5, 280, 4), (4, 2, 8, 0)) + CASE_A, 63, None), (CASE_A[:-1] + b"\0", 63, None),
+    (reference.entry(asked(0, 2), answered(0, refusal=16)), 62, None), (reference.entry(asked(0, 2), answered(1, 5, 560, 4096)), 62, None),
+    (CASE_A[:32], 61, "32 bytes"), (reference.entry(asked(0, 2), answered(1, 5, 560, 4), (4, 2, 8, 0)) + CASE_A, 63, None), (CASE_A[:-1] + b"\0", 63, None),
 )
 REASONS = {
     61: "refused 61: the file ends inside an entry, of which it has ", 62: "refused 62: the answer is none that can be logged",
@@ -192,22 +192,22 @@ def differing(text):
         (first, []),
         (reference.entry(to_east, proved, route[::-1]), ["DIFFERS", "; its route holds, but the first of this cost is 1 SE, 1 E"]),
         (
-            reference.entry(to_east, answered(1, 6, 210, 3), (4, 2, 2)),
-            ["DIFFERS", f"{answer}found at cost 169 in 2 steps; 6 cells settled{logged.format(answered(1, 6, 210, 3).hex(' '))}", "DIFFERS", f"{another}1 SE, 1 E"],
+            reference.entry(to_east, answered(1, 6, 420, 3), (4, 2, 2)),
+            ["DIFFERS", f"{answer}found at cost 338 in 2 steps; 6 cells settled{logged.format(answered(1, 6, 420, 3).hex(' '))}", "DIFFERS", f"{another}1 SE, 1 E"],
         ),
         (
             reference.entry(four, reference.answer(text, four), (2, 3)),
             ["WRONG", f"{claimed}fault 41 at step 2, SE from (1,0): a direction is", "DIFFERS", f"{another}2 E"],
         ),
         (
-            reference.entry(to_east, answered(1, 6, 170, 2), route),
-            ["WRONG", f"{claimed}fault 46 after all 2 steps", "DIFFERS", f"{answer}found at cost 169"],
+            reference.entry(to_east, answered(1, 6, 339, 2), route),
+            ["WRONG", f"{claimed}fault 46 after all 2 steps", "DIFFERS", f"{answer}found at cost 338"],
         ),
-        (reference.entry(to_east, answered(1, 5, 169, 2), route), ["DIFFERS", f"{answer}found at cost 169 in 2 steps; 6 cells settled"]),
-        (reference.entry(to_east, answered(2, 6, 4294967295)), ["DIFFERS", f"{answer}found at cost 169"]),
+        (reference.entry(to_east, answered(1, 5, 338, 2), route), ["DIFFERS", f"{answer}found at cost 338 in 2 steps; 6 cells settled"]),
+        (reference.entry(to_east, answered(2, 6, 4294967295)), ["DIFFERS", f"{answer}found at cost 338"]),
         (reference.entry(asked(0, 5, ways=7), proved, route), ["WRONG", f"{claimed}refused 4: ways is neither", "DIFFERS", f"{answer}refused 4"]),
         (reference.entry(asked(0, 5, zeros=b"\0\0\1"), proved, route), ["DIFFERS", f"{answer}refused 13"]),
-        (reference.entry(asked(0, 0), answered(1, 1, 140, 2), (2, 6)), ["DIFFERS", f"{answer}found at cost 0", "DIFFERS", f"{another}no step"]),
+        (reference.entry(asked(0, 0), answered(1, 1, 280, 2), (2, 6)), ["DIFFERS", f"{answer}found at cost 0", "DIFFERS", f"{another}no step"]),
     )
 
 
@@ -265,6 +265,35 @@ def test_limit_0_logged(folder):
     print("tools: logs: limit 0, and as it was logged before")
 
 
+# On the floor 2.9: question, an answer that was kept, its route, and whether its cost or its floor is not the proved one. The first three are as they were given
+# while a step counted only the cell it enters.
+KEPT = (
+    (asked(0, 2), answered(1, 3, 700, 2), (2, 2), True),
+    (asked(1, 2), answered(1, 3, 630, 1), (2,), True),
+    (asked(0, 2, 1), answered(3, 1, 70), (), True),
+    (asked(0, 2), answered(1, 2, 910, 2), (2, 2), False),
+    (asked(0, 2), answered(2, 3, 4294967295), (), False),
+    (asked(0, 2), answered(3, 1, 70), (), False),
+    (asked(0, 2, ways=5), answered(1, 3, 700, 2), (2, 2), False),
+    (asked(0, 2), answered(1, 3, 910, 2), (2, 2), False),
+)
+
+
+def test_costs_of_then(folder):
+    """Where a cost or a floor is not the proved one, the summary says once that there was another rule; each still differs, and nothing is excused."""
+    hall = written(folder, "c.map", text_of("2.9"))
+    advice = "before version 2.0.0 a step counted only the cell it enters; check what was kept from then with the version that gave it"
+    for record, kept, route, told in KEPT:
+        status = 0 if kept == reference.answer(hall.read_bytes(), record) else 1
+        log = written(folder, "kept.log", reference.entry(record, kept, route) * 2)
+        replayed = [hall, "--replay", written(folder, "q", record * 2), "--answers", written(folder, "a", kept * 2)]
+        for what, words in (("logged", [hall, "--read-log", log]), ("given", replayed)):
+            out, (*_, last) = expect_run(words, status), expect_run([*words, "--json"], status).split("\n")[:-1]
+            good = out.count("DIFFERS") == 2 * status and out.count(advice) == told and json.loads(last)["summary"].get("advice") == (advice if told else None)
+            expect(f"{kept.hex(' ')}, {what}: what is said of its cost", good and out.count("\n" + advice + "\n") == told, out + last)
+    print("tools: logs: costs of another rule, each told as different, and what to do about them")
+
+
 # ---- not appended
 
 
@@ -313,10 +342,10 @@ def test_full_disk(folder):
     before = NONE * 127  # 32 bytes short of the limit
     log = written(folder, "full.log", before)
     words = [hall, "--from", "0,0", "--to", "2,0", "--limit", "5", "--quiet", "--log", log]
-    out = expect_run(words, 2, ["found at cost 280"], [f"full.log takes no more: {ends.format(4064, 127)}"], command=limited)
+    out = expect_run(words, 2, ["found at cost 560"], [f"full.log takes no more: {ends.format(4064, 127)}"], command=limited)
     expect("the log is as it was", log.read_bytes() == before and "logged" not in out, out)
     told = json.loads(expect_run([*words, "--json"], 2, [], ["takes no more"], command=limited))
-    expect("as an object", told["cost"] == 280 and told["logged"] is None and log.read_bytes() == before, told)
+    expect("as an object", told["cost"] == 560 and told["logged"] is None and log.read_bytes() == before, told)
     before = NONE * 125  # room for two of three
     log.write_bytes(before)
     out = expect_run([hall, "--replay", questions, "--log", log], 2, ["   3  "], [ends.format(4096, 127)], command=limited)
@@ -375,7 +404,7 @@ def test_meanwhile(folder):
             log.write_bytes(left)
             feed.write(CASE_A[:16])
         out, err = process.communicate(timeout=LONG)
-        good = process.returncode == 2 and complained in err.decode() and err.count(b"\n") == 1 and out.count(b"found at cost 280") == 3
+        good = process.returncode == 2 and complained in err.decode() and err.count(b"\n") == 1 and out.count(b"found at cost 560") == 3
         expect(complained, good and log.read_bytes() == left, out + err)
     print("tools: logs: what another does to a log meanwhile")
 

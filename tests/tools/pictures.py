@@ -223,7 +223,8 @@ def questions():
     yield "furnace", (3, 12), (43, 12), 8, None, {80: "over", 120: "beside"}
     yield "furnace", (3, 12), (43, 12), 4, 100, {80: "over", 120: "beside"}
     yield "mixed", (0, 0), (4, 3), 8, None, {80: "beside", 12: "over"}
-    yield "mixed", (0, 0), (4, 3), 8, 3, {80: "beside", 12: "alone"}
+    yield "mixed", (0, 0), (4, 3), 8, 2, {80: "beside", 12: "alone"}
+    yield "mixed", (0, 0), (4, 3), 8, 3, {12: "over"}  # the third settled cell has weight 3
     yield "mixed", (2, 0), (2, 0), 8, None, {80: "beside", 12: "over"}
     yield "level", (0, 0), (4, 2), 8, None, {80: "beside", 12: "alone"}
     yield "level", (0, 0), (4, 2), 4, 5, {12: "alone"}
@@ -406,7 +407,7 @@ def test_svg(folder):
             circles = [picture.of("circle", letter)[0] for letter in "SG"]
             expect(f"{what}: both ends are seen", abs(float(circles[0].get("cx")) - float(circles[1].get("cx"))) >= float(circles[0].get("r")) * 1.2)
     ended, out, err = run([HALLS / "row.map", "--from", "0,0", "--to", "40,0", "--svg", "-"])
-    expect("--svg - writes the picture alone", ended == 0 and tree.fromstring(out) is not None and "found at cost 5600" in err, out[:200] + err)
+    expect("--svg - writes the picture alone", ended == 0 and tree.fromstring(out) is not None and "found at cost 11130" in err, out[:200] + err)
     print(f"tools: {len(asked)} pictures as SVG, read back cell by cell: shades, dots, digits on top, the route, the ends, the key")
 
 

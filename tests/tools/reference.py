@@ -1,4 +1,4 @@
-"""A search and a route log of its own for the tests: 01's rules, R-1's and R-2's, a heap, and nothing of the project."""
+"""A search and a route log of its own for the tests: 01's rules, R-1's to R-3's, a heap, and nothing of the project."""
 import heapq
 import struct
 
@@ -21,7 +21,7 @@ def step(rows, ways, x, y, direction):
         return None
     if 0 in (rows[y][x], rows[y + dy][x + dx], rows[y][x + dx], rows[y + dy][x]):
         return None
-    return x + dx, y + dy, (99 if dx and dy else 70) * rows[y + dy][x + dx]
+    return x + dx, y + dy, (99 if dx and dy else 70) * (rows[y][x] + rows[y + dy][x + dx])
 
 
 def least_costs(rows, ways, start):

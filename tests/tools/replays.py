@@ -34,12 +34,14 @@ def test_halls(folder):
 
 
 def test_story(_):
-    expect_run([HALLS / "row.map", "--from", "0,0", "--to", "40,0"], 0, ["found at cost 5600 in 40 steps"])
-    expect_run([HALLS / "furnace.map", "--from", "3,12", "--to", "43,12"], 0, ["found at cost 3290 in 46 steps", "route: 2 S, 41 E, 2 N, 1 W"])
-    expect_run([HALLS / "furnace.map", "--from", "43,12", "--to", "3,12"], 0, ["found at cost 3220 in 46 steps"])
+    expect_run([HALLS / "row.map", "--from", "0,0", "--to", "40,0"], 0, ["found at cost 11130 in 40 steps"])
+    expect_run([HALLS / "furnace.map", "--from", "3,12", "--to", "43,12"], 0, ["found at cost 6510 in 46 steps", "route: 2 S, 41 E, 2 N, 1 W"])
+    expect_run([HALLS / "furnace.map", "--from", "43,12", "--to", "3,12"], 0, ["found at cost 6510 in 46 steps", "route: 1 E, 2 S, 41 W, 2 N"])
+    through = "the claim holds: 40 steps at cost 11130"
+    expect_run([HALLS / "furnace.map", "--from", "3,12", "--to", "43,12", "--check", "2" * 40, "--cost", "11130", "--quiet"], 0, [through])
     expect_run(
         [HALLS / "row.map", "--replay", HALLS / "row.questions", "--answers", HALLS / "row.old.answers"], 1,
-        ["found at cost 5600", "DIFFERS: answer 1 (bytes 0 to 15) says found at cost 2800 in 40 steps", "2 given answers differ (number 1, 2)"],
+        ["found at cost 11130", "DIFFERS: answer 1 (bytes 0 to 15) says found at cost 5600 in 40 steps", "2 given answers differ (number 1, 2)"],
     )
     print("tools: forty warm cells: the numbers of examples/halls/README.md")
 
@@ -64,12 +66,12 @@ def test_compared(folder):
         return out
 
     expect_run([hall, "--replay", questions], 0, [
-        "   1  (3,12) to (43,12), 8 ways, limit 4096\n      found at cost 3290 in 46 steps; 527 cells settled\n",
+        "   1  (3,12) to (43,12), 8 ways, limit 4096\n      found at cost 6510 in 46 steps; 528 cells settled\n",
         "(24,15) to cell 1152 (off the map), 8 ways", "refused 6: the goal is not on the map",
         "last bytes 00 00 01", "refused 13: the last three bytes", "6 ways", "refused 4", "limit 0\n      refused 15: the limit is 0", "18 questions answered\n", "answered by the program\n",
     ])
-    out = replay(altered(answers, 16 * 6 + 8), 1, ["DIFFERS: answer 7 (bytes 96 to 111) says found at cost 5741", "1 given answer differs (number 7)"])
-    expect("one difference", out.count("DIFFERS") == 1 and "   7  (10,7) to (37,7), 4 ways" in out and "found at cost 5740" in out, out)
+    out = replay(altered(answers, 16 * 6 + 8), 1, ["DIFFERS: answer 7 (bytes 96 to 111) says found at cost 11481", "1 given answer differs (number 7)"])
+    expect("one difference", out.count("DIFFERS") == 1 and "   7  (10,7) to (37,7), 4 ways" in out and "found at cost 11480" in out, out)
     each = answers
     for place in range(16):
         each = altered(each, 17 * place)
@@ -204,8 +206,8 @@ def test_samples(folder):
 
 def test_run(folder):
     command = [str(ROOT / "run")]
-    expect_run([], 0, ["found at cost 5600", "2 given answers differ", "found at cost 3290", "18 questions answered; 0 given answers differ"], command=command, cwd=folder)
+    expect_run([], 0, ["found at cost 11130", "2 given answers differ", "found at cost 6510", "18 questions answered; 0 given answers differ"], command=command, cwd=folder)
     path = written(folder, "mine.map", text_of(".@./..."))
-    expect_run([path.name, "--from", "0,0", "--to", "2,0", "--quiet"], 0, ["found at cost 280"], command=command, cwd=folder)
+    expect_run([path.name, "--from", "0,0", "--to", "2,0", "--quiet"], 0, ["found at cost 560"], command=command, cwd=folder)
     expect_run(["no.map", "--from", "0,0", "--to", "2,0"], 2, [], ["no.map cannot be opened"], command=command, cwd=folder)
     print("tools: ./run from another folder, alone and with words")

@@ -34,9 +34,9 @@ def test_outputs(_):
         expect(f"an output that nobody reads: {words}", ended == 2 and "Broken pipe" in err and "Traceback" not in err and "Exception" not in err, err)
         ended, _, err = closed(">", words)
         expect(f"a closed output: {words}", ended == 2 and "Traceback" not in err and "./run: " in err, err)
-    out = expect_run([*ROW, "--svg", "/dev/full"], 2, ["found at cost 5600", "│S"], ["the picture cannot be written to /dev/full: No space left on device"])
+    out = expect_run([*ROW, "--svg", "/dev/full"], 2, ["found at cost 11130", "│S"], ["the picture cannot be written to /dev/full: No space left on device"])
     expect("the answer comes first", "the picture is in" not in out, out)
-    expect_run([*ROW, "--svg", "/no/such/place.svg"], 2, ["found at cost 5600"], ["the picture cannot be written to /no/such/place.svg: No such file or directory"])
+    expect_run([*ROW, "--svg", "/no/such/place.svg"], 2, ["found at cost 11130"], ["the picture cannot be written to /no/such/place.svg: No such file or directory"])
     expect_run([HALLS / "row.map", "--write-questions", "/dev/full", "--from", "0,0", "--to", "1,0"], 2, [], ["cannot be written to /dev/full"])
     ended, out, _ = closed("2>", [HALLS / "no.map", *ROW[1:]])
     expect("no standard error to complain on", ended == 2 and not out, out)
@@ -74,9 +74,9 @@ def test_memory(_):
     answered = refused = 0
     for megabytes in (*range(16, 64, 4), 96, 192, 384, 768):
         ended, out, err = run(["-c", f'ulimit -v {megabytes << 10}; exec "$@"', "bash", *ASK, *ROW], command=["bash"])
-        answered += ended == 0 and "found at cost 5600" in out
+        answered += ended == 0 and "found at cost 11130" in out
         refused += ended == 2 and "./run: " in err
-        good = "found at cost 5600" in out if ended == 0 else "./run: " in err if ended == 2 else "ask" not in err
+        good = "found at cost 11130" in out if ended == 0 else "./run: " in err if ended == 2 else "ask" not in err
         expect(f"{megabytes} MB", good and not ("Traceback" in err and "ask" in err), f"{ended}\n{out}{err}")
     expect("some is enough", answered)
     print(f"tools: little memory: {answered} answers, {refused} lines")
@@ -163,7 +163,7 @@ def test_programs(folder):
     expect("a replay whose program fails", ended == 2 and all(piece in err for piece in complained) and "answered by" in out and "questions answered" not in out, out + err)
 
     # the answer's cost, one more than the search's
-    other = 'case $3 in */planner) head -c 16 >/dev/null; printf "\\1\\0\\0\\0\\51\\0\\0\\0\\341\\25\\0\\0\\50\\0\\0\\0" ;; *) exec $real "$3" ;; esac'
+    other = 'case $3 in */planner) head -c 16 >/dev/null; printf "\\1\\0\\0\\0\\51\\0\\0\\0\\173\\53\\0\\0\\50\\0\\0\\0" ;; *) exec $real "$3" ;; esac'
     expect_run(ROW, 2, [], ["planner and calls answer differently"], env=with_programs(folder, "other", other))
     silent = with_programs(folder, "silent", "exit 0")
     expect_run(ROW, 2, [], ["the program calls gave no whole reply"], env=silent)

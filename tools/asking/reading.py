@@ -93,6 +93,7 @@ class Tally:
     def __init__(self):
         self.checked = 0
         self.wrong, self.differ = Noted(), Noted()
+        self.costs_differ = False
 
     def add(self, shown):
         self.checked += shown.verdict is not None
@@ -100,6 +101,8 @@ class Tally:
             self.wrong.add(shown.number)
         if shown.differs():
             self.differ.add(shown.number)
+        if shown.answer_differs():
+            self.costs_differ |= words.costs_differ(answer_of(shown.entry.answered), answer_of(shown.proved))
 
     def lines(self, entries, floor):
         if entries.refusal:
@@ -109,11 +112,14 @@ class Tally:
             line += f"; {words.count(self.checked, 'route')} checked; {self.wrong.of('route', 'is wrong', 'are wrong')}"
             line += f"; {self.differ.of('entry', 'differs', 'differ')}"
         yield line
+        if self.costs_differ:
+            yield words.COSTS_OF_THEN
 
     def object(self, entries, floor, by):
         told = {"entries": entries.count, "bytes": entries.at}
         told |= {"torn": {"byte": entries.at, **refusal_object(entries.refusal)} if entries.refusal else None}
-        return {"summary": told | ({"checked": self.checked, "wrong": self.wrong.count, "differ": self.differ.count, "answered_by": by} if floor else {})}
+        told |= {"checked": self.checked, "wrong": self.wrong.count, "differ": self.differ.count, "answered_by": by} if floor else {}
+        return {"summary": told | ({"advice": words.COSTS_OF_THEN} if self.costs_differ else {})}
 
     def status(self, entries):
         return DIFFERENT if entries.refusal or self.wrong.count or self.differ.count else ANSWERED

@@ -159,6 +159,7 @@ class Counts:
     def __init__(self):
         self.answered = 0
         self.differs, self.missing, self.unlogged = Noted(), Noted(), Noted()
+        self.costs_differ = False
         self.further = 0
         self.broken = 0
 
@@ -167,6 +168,8 @@ class Counts:
         for noted, so in ((self.differs, turn.compared == "differs"), (self.missing, turn.compared == "missing"), (self.unlogged, turn.unlogged)):
             if so:
                 noted.add(turn.place + 1)
+        if turn.compared == "differs":
+            self.costs_differ |= words.costs_differ(answer_of(turn.given), answer_of(turn.proved))
 
     def lines(self, comparing, log):
         if self.broken:
@@ -177,6 +180,8 @@ class Counts:
             if self.missing.count:
                 line += f"; {self.missing.of('answer', 'is missing', 'are missing')}"
         yield line
+        if self.costs_differ:
+            yield words.COSTS_OF_THEN
         if self.further:
             yield f"{words.count(self.further, 'given answer')} more than questions"
         if log:
@@ -186,6 +191,7 @@ class Counts:
     def object(self, by, log):
         told = {"questions": self.answered, "differ": self.differs.count, "missing": self.missing.count}
         told |= {"further": self.further, "broken_bytes": self.broken, "answered_by": by}
+        told |= {"advice": words.COSTS_OF_THEN} if self.costs_differ else {}
         return {"summary": told | ({"logged": log.appended, "not_logged": self.unlogged.count} if log else {})}
 
     def status(self):

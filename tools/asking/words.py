@@ -49,6 +49,8 @@ LEAVE_OUT = "leave out --limit to search the whole map"
 EMPTY_LIMIT = f"it is empty; a limit is a whole number from 1 to {LARGEST}; {LEAVE_OUT}"
 ZERO_LIMIT_IN_WORDS = f"nothing can be settled with limit 0; {LEAVE_OUT}"
 ZERO_LIMIT_IN_A_RECORD = f"nothing can be settled with limit 0; a record that is to search the whole map has limit {LARGEST}"
+# What to do where costs differ. It excuses nothing: by its number alone a cost of then cannot be told from a wrong one.
+COSTS_OF_THEN = "before version 2.0.0 a step counted only the cell it enters; check what was kept from then with the version that gave it"
 # How limit 0 was answered before it was refused.
 OLD_ANSWER_TO_ZERO = Answer(STOPPED, 0, b"\0\0", 0, 0, 0)
 
@@ -123,6 +125,11 @@ def change_of_rules(kept, proved):
     return None
 
 
+def costs_differ(kept, proved):
+    """Whether two answers of one kind have other costs, or other floors."""
+    return kept.kind == proved.kind and kept.kind in (FOUND, STOPPED) and kept.number != proved.number
+
+
 def place(floor, cell):
     """A cell as x,y, as far as it is on the map; as its number where there is no map."""
     if floor is None:
@@ -139,16 +146,17 @@ def asked(floor, question):
 
 
 def sums(floor, start, route):
-    """P and Q: the entered weights over straight steps and over diagonal ones."""
-    entered = cells_of(floor, start, route)[1:]
-    straight = sum(floor.cells[cell] for cell, direction in zip(entered, route) if direction % 2 == 0)
-    diagonal = sum(floor.cells[cell] for cell, direction in zip(entered, route) if direction % 2 == 1)
+    """P and Q: the steps' weights, each that of both its cells, over straight steps and over diagonal ones."""
+    cells = cells_of(floor, start, route)
+    weights = [floor.cells[left] + floor.cells[entered] for left, entered in zip(cells, cells[1:])]
+    straight = sum(weight for weight, direction in zip(weights, route) if direction % 2 == 0)
+    diagonal = sum(weight for weight, direction in zip(weights, route) if direction % 2 == 1)
     return straight, diagonal
 
 
 def true_length(floor, start, route, root):
     straight, diagonal = sums(floor, start, route)
-    return f"true length {straight} + {diagonal}{root} = {straight + diagonal * math.sqrt(2):.3f}"
+    return f"true length {straight} + {diagonal}{root} = {straight + diagonal * math.sqrt(2):.3f}; a straight step on level floor is 2"
 
 
 def directions(route):
