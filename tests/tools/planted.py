@@ -5,11 +5,13 @@ A file of planted/ says in its first lines what a person would see; then 'test:'
 """
 import os
 import shutil
+import signal
 import subprocess
 import sys
 import tempfile
 import time
 from concurrent.futures import ThreadPoolExecutor
+from contextlib import suppress
 from pathlib import Path
 
 HERE = Path(__file__).resolve().parent
@@ -34,10 +36,25 @@ def bug_in(path):
     return tests, edits
 
 
+def tested(folder, tests):
+    """Status and output of the tests on the copy in a folder. They end at the first thing that is wrong, so that what they started may still run and write to
+    the folder: it is a group of its own, and is ended with them."""
+    command = [sys.executable, str(HERE / "front_end.py"), *tests]
+    environment = {**os.environ, "FRONT_END": folder, "TMPDIR": folder, "PYTHONDONTWRITEBYTECODE": "1"}
+    with subprocess.Popen(command, stdout=subprocess.PIPE, stderr=subprocess.STDOUT, text=True, env=environment, start_new_session=True) as process:
+        try:
+            out, _ = process.communicate(timeout=LONG)
+        finally:
+            with suppress(ProcessLookupError):
+                os.killpg(process.pid, signal.SIGKILL)
+    return process.returncode, out
+
+
 def noticed(path):
     """Whether the tests fail on a copy with the bug in it; why not, if not."""
     tests, edits = bug_in(path)
-    with tempfile.TemporaryDirectory() as folder:
+    # what a process writes while it is being ended is no reason to fail
+    with tempfile.TemporaryDirectory(ignore_cleanup_errors=True) as folder:
         shutil.copytree(ROOT / "tools", Path(folder, "tools"), ignore=shutil.ignore_patterns("__pycache__"))
         for name in LINKED:
             Path(folder, name).symlink_to(ROOT / name)
@@ -48,14 +65,11 @@ def noticed(path):
                 return f"'{old}' stands {text.count(old)} times in {name}"
             file.write_text(text.replace(old, new), encoding="utf-8")
         try:
-            done = subprocess.run(
-                [sys.executable, str(HERE / "front_end.py"), *tests], capture_output=True, text=True, timeout=LONG,
-                env={**os.environ, "FRONT_END": folder, "TMPDIR": folder, "PYTHONDONTWRITEBYTECODE": "1"}, check=False,
-            )
+            status, out = tested(folder, tests)
         except subprocess.TimeoutExpired:
             return f"the tests {' '.join(tests)} hang on it"
-    if done.returncode == 0 or "WRONG" not in done.stdout:
-        return f"not noticed by {' '.join(tests)}\n{done.stdout}{done.stderr}"
+    if status == 0 or "WRONG" not in out:
+        return f"not noticed by {' '.join(tests)}\n{out}"
     return None
 
 
