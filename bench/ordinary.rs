@@ -55,8 +55,13 @@ impl Floor<'_> {
         self.map[self.cell_at(x, y)] != 0
     }
 
-    /// The cell that a step from an open cell enters and what it costs, where the step is allowed.
-    fn step(&self, x: i32, y: i32, direction: usize) -> Option<(usize, u32)> {
+    fn weight(&self, cell: usize) -> u32 {
+        u32::from(self.map[cell])
+    }
+
+    /// The cell that a step from an open cell enters and what it costs, where the step is allowed. `left` is the weight of
+    /// the cell that it leaves.
+    fn step(&self, x: i32, y: i32, left: u32, direction: usize) -> Option<(usize, u32)> {
         let (dx, dy, unit) = DIRECTIONS[direction];
         let (u, v) = (x + dx, y + dy);
         if !self.has(u, v) || !self.is_open(u, v) {
@@ -66,7 +71,7 @@ impl Floor<'_> {
             return None;
         }
         let to = self.cell_at(u, v);
-        Some((to, unit * u32::from(self.map[to])))
+        Some((to, unit * (left + self.weight(to))))
     }
 }
 
@@ -143,8 +148,9 @@ fn settle(floor: &Floor, question: &Question, costs: &mut [u32], route: &mut [u8
             return Answer::found(settled, cost, length);
         }
         let (x, y) = floor.place_of(cell);
+        let left = floor.weight(cell);
         for direction in floor.directions() {
-            if let Some((to, step)) = floor.step(x, y, direction) {
+            if let Some((to, step)) = floor.step(x, y, left, direction) {
                 if cost + step < costs[to] {
                     costs[to] = cost + step;
                     open.push(key(cost + step, to));
@@ -189,7 +195,7 @@ fn last_step(floor: &Floor, costs: &[u32], cell: usize) -> (usize, usize) {
             continue;
         }
         let from = floor.cell_at(u, v);
-        if let Some((_, step)) = floor.step(u, v, direction) {
+        if let Some((_, step)) = floor.step(u, v, floor.weight(from), direction) {
             if costs[from] + step == costs[cell] {
                 return (direction, from);
             }

@@ -36,7 +36,7 @@ asked-bounded (searched z x) = searched-bounded x
 
 pub both-cells : BothCells
 both-cells = record {
-  costs = λ f m v d w c e. step-costs f m v d e;
+  costs = λ f m v d w c e. omega (arith, step-costs f m v d e);
   back = λ f m v d w c e. there-and-back f m v d e;
   between = λ f m p v d w c e. step-between f m p v d e;
   sums = cost-parts;
