@@ -23,7 +23,7 @@ isDirection f d = ltb d 8 && (eqb (f .ways) 8 || eqb (d % 2) 0)
 unfoldable pub stepWeight : List ℕ → ℕ → ℕ → ℕ
 stepWeight m v w = getD m v 0 + getD m w 0
 
--- its bounds: both cells are open
+-- the bounds of a step's weight: two cells of weight 1, two of the greatest
 abbrev pub leastStepWeight : ℕ
 leastStepWeight = 2
 
