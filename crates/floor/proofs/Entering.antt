@@ -1,4 +1,4 @@
--- The step into a cell: the step back from the cell enters the cell that it leaves, by the laws of the step back at the opposite direction.
+-- The step into a cell: the step back from the cell enters the cell that it leaves and costs the same, by the laws of the step back at the opposite direction.
 use mathlib.Core.Path.{_≡_, refl, sym, subst}
 use mathlib.Core.Bool.{Bool, true, false, cond, not, _&&_}
 use mathlib.Core.List.{List}
@@ -51,7 +51,6 @@ module _ (f : Floor) (m : List ℕ) (v d : ℕ) where
   pub into-from : (w c : ℕ) → d < 8 → stepOf f m v (opposite d) ≡ To w c → From w c ≡ intoOf f m v d
   unfolding intoOf
   into-from w c h e =
-      let u = target f v (opposite d) in
       let l = leads f m v (opposite d) e in
       let there = leads f m w d (rw (opposite-twice d h) at (there-and-back f m v (opposite d) e)) in
       rw (← l .to, T-true (allowed f m w d) (there .steps), eq-eqb (target f w d) v (sym (there .to)), there .costs, ← there .to)

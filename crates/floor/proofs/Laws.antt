@@ -174,11 +174,11 @@ module _ (f : Floor) (m : List ℕ) where
         ⊎-elim (λ w. absurd (omega (arith, eqb→eq (f .ways) 8 w))) (λ w. eqb→eq (d % 2) 0 w)
         (T-or (eqb (f .ways) 8) (eqb (d % 2) 0) (T-and (ltb d 8) _ (allowed-is f m v d t .direction) .1))
 
-  -- so are all steps of the floor
+  -- every step of the floor can be taken back at its own cost
   pub mirrored : Mirrored (graph f m) opposite
   mirrored = record { back = step-back-allowed; home = step-back; same = step-back-cost }
 
-  -- as the step test says it: a step and its step back cost the same
+  -- and as the step test says it
   pub there-and-back : (v d : ℕ) {w c : ℕ} → stepOf f m v d ≡ To w c → stepOf f m w (opposite d) ≡ To v c
   there-and-back v d {w} {c} e =
       let l = leads f m v d e in
