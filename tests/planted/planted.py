@@ -1,7 +1,7 @@
 #!/usr/bin/env python3
-"""Plants each bug of planted/ in a copy of the front end and looks whether the tests notice: those that the bug's file names, run on the copy, must fail.
+"""Plants each bug of bugs/ in a copy of the front end and looks whether the tests notice: those that the bug's file names, run on the copy, must fail.
 
-A file of planted/ says in its first lines what a person would see; then 'test:' names tests, 'file:' a file below tools/, and 'old:' and 'new:' a line of it.
+A file of bugs/ says in its first lines what a person would see; then 'test:' names tests, 'file:' a file below tools/, and 'old:' and 'new:' a line of it.
 """
 import os
 import shutil
@@ -39,7 +39,7 @@ def bug_in(path):
 def tested(folder, tests):
     """Status and output of the tests on the copy in a folder. They end at the first thing that is wrong, so that what they started may still run and write to
     the folder: it is a group of its own, and is ended with them."""
-    command = [sys.executable, str(HERE / "front_end.py"), *tests]
+    command = [sys.executable, str(ROOT / "tests" / "tools" / "front_end.py"), *tests]
     environment = {**os.environ, "FRONT_END": folder, "TMPDIR": folder, "PYTHONDONTWRITEBYTECODE": "1"}
     with subprocess.Popen(command, stdout=subprocess.PIPE, stderr=subprocess.STDOUT, text=True, env=environment, start_new_session=True) as process:
         try:
@@ -75,14 +75,14 @@ def noticed(path):
 
 def main():
     began = time.monotonic()
-    bugs = sorted((HERE / "planted").glob("*.edit"))
+    bugs = sorted((HERE / "bugs").glob("*.edit"))
     with ThreadPoolExecutor(2) as workers:
         results = list(workers.map(noticed, bugs))
     for bug, why in zip(bugs, results):
         if why:
-            print(f"tools: WRONG: planted bug {bug.stem}: {why}")
+            print(f"planted: WRONG: bug {bug.stem}: {why}")
     missed = sum(why is not None for why in results)
-    print(f"tools: {len(bugs)} bugs planted, {missed} not noticed, in {time.monotonic() - began:.0f} seconds")
+    print(f"planted: {len(bugs)} bugs, {missed} not noticed, in {time.monotonic() - began:.0f} seconds")
     return 1 if missed or not bugs else 0
 
 
