@@ -9,15 +9,17 @@ use native.Mathlib.Nat.{mul-le-mul, sub-zero}
 use native.Mathlib.Decide.{decLt, decLe}
 use borrow.Author.Tests.{le-leb, lt-leb}
 use lib.Dec.{T, eqb, leb, eqb→eq, leb→le, le→leb}
+use lib.ListN.{getD}
 use Rattle.paths.specs.Route.{walks, costOf}
 use Rattle.paths.proofs.Below.{every-at}
 use Rattle.paths.proofs.Bools.{T-and}
 use Rattle.floor.specs.declared.Floor.{Floor}
+use Rattle.floor.specs.declared.Step.the-variants.{To}
 use Rattle.floor.specs.Direction.{rowOf, isDiagonal}
-use Rattle.floor.specs.Length.{Surd, surd, square, atMost, times, squared, stepLength, lengthOf}
+use Rattle.floor.specs.Length.{Surd, surd, square, atMost, plus, times, squared, stepLength, lengthOf}
 use Rattle.floor.specs.FourLines.{FourLines}
-use Rattle.floor.specs.Step.{stepWeight, stepCost, target, allowed, graph}
-use Rattle.floor.proofs.Allowed.{allowed-is}
+use Rattle.floor.specs.Step.{stepWeight, stepCost, target, stepOf, allowed, graph}
+use Rattle.floor.proofs.Allowed.{allowed-is, leads}
 use Rattle.floor.proofs.Rows.{direction-lt}
 
 test-is : (b : Bool) (x y : ℕ) → b ≡ leb x y → T b ↔ (x ≤ y)
@@ -169,6 +171,12 @@ step-parts d n h = rw (unit-of d h) (go (isDiagonal d))
     go false = omega arith
 
 module _ (f : Floor) (m : List ℕ) where
+  -- what a step adds to a route's true length, in 02's words
+  pub length-step : (v d : ℕ) {w c : ℕ} (ds : List ℕ) → stepOf f m v d ≡ To w c
+      → lengthOf f m v (d ∷ ds) ≡ plus (stepLength d (getD m v 0 + getD m w 0)) (lengthOf f m w ds)
+  unfolding stepWeight
+  length-step v d ds e = rw (leads f m v d e .to)
+
   pub cost-parts : (v : ℕ) (ds : List ℕ) → T (walks (graph f m) v ds) → costOf (graph f m) v ds ≡ 70 * lengthOf f m v ds .whole + 99 * lengthOf f m v ds .root
   unfolding stepCost
   cost-parts v [] t = refl

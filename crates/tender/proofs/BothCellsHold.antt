@@ -1,11 +1,12 @@
 -- Half the step on each cell: the steps are laws of the floor; an answer's cost or floor is a least cost by 01's table, and the floor bounds those.
-use mathlib.Core.Path.{_∙_}
-use mathlib.Core.List.{List}
+use mathlib.Core.Path.{_≡_, _∙_, subst}
+use mathlib.Core.List.{List, _∷_}
 use Prim.Native.Nat.{ℕ}
 use native.Mathlib.Omega.{arith}
 use Rattle.floor.specs.declared.Floor.{Floor}
+use Rattle.floor.specs.Length.{plus, stepLength, lengthOf}
 use Rattle.floor.proofs.Laws.{step-costs, there-and-back, step-between, least-cost-bound}
-use Rattle.floor.proofs.Lengths.{cost-parts}
+use Rattle.floor.proofs.Lengths.{length-step, cost-parts}
 use Rattle.floor.proofs.Questions.{question-passed}
 use Rattle.search.specs.declared.Answer.{Answer}
 use Rattle.search.specs.Search.{Question, Rooms, Searched, refused, passed, numbersOf}
@@ -39,7 +40,8 @@ both-cells = record {
   costs = λ f m v d w c e. omega (arith, step-costs f m v d e);
   back = λ f m v d w c e. there-and-back f m v d e;
   between = λ f m p v d w c e. step-between f m p v d e;
-  sums = cost-parts;
+  sums = λ f m v d w c ds e. subst (λ (n : ℕ). lengthOf f m v (d ∷ ds) ≡ plus (stepLength d n) (lengthOf f m w ds)) (omega arith) (length-step f m v d ds e);
+  route = cost-parts;
   search = λ f m q r a r′ x. searched-bounded x;
   call = λ f m q r n r′ x. rw (x .numbers) (searched-bounded (x .searched));
   records = λ f m bytes r k bytes′ r′ x i h.
