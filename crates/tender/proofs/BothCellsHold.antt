@@ -1,5 +1,5 @@
 -- Half the step on each cell: the steps are laws of the floor; an answer's cost or floor is a least cost by 01's table, and the floor bounds those.
-use mathlib.Core.Path.{_≡_, _∙_, subst}
+use mathlib.Core.Path.{_≡_, subst}
 use mathlib.Core.List.{List, _∷_}
 use Prim.Native.Nat.{ℕ}
 use native.Mathlib.Omega.{arith}
@@ -11,11 +11,10 @@ use Rattle.floor.proofs.Questions.{question-passed}
 use Rattle.search.specs.declared.Answer.{Answer}
 use Rattle.search.specs.Search.{Question, Rooms, Searched, refused, passed, numbersOf}
 use Rattle.search.proofs.Lending.{search-question}
-use Rattle.desk.specs.Desk.{Asked, no-zeros, searched, wholeRecords}
 use Rattle.tender.specs.BothCells.{Bounded, BothCells}
 use Rattle.tender.proofs.Rowed.{starts}
 use Rattle.tender.proofs.Tabled.{table-holds}
-use Rattle.tender.proofs.Records.{record-numbers, answered-each}
+use Rattle.tender.proofs.Records.{each-record}
 
 refusal-bounded : (n p : ℕ) → Bounded (numbersOf (Answer.Refused n p))
 refusal-bounded n p = record { cost = λ k. absurd (omega arith); floor = λ k. absurd (omega arith) }
@@ -30,11 +29,6 @@ searched-bounded {f} {m} {q} {r} (passed p x) =
       floor = λ k. bound _ _ (starts x p) (table .stopped-number (table .stopped .0 k) .2);
     }
 
--- a question record: 13 is a refusal too
-asked-bounded : {f : Floor} {m question : List ℕ} {r : Rooms} {a : Answer} {r′ : Rooms} → Asked f m question r a r′ → Bounded (numbersOf a)
-asked-bounded (no-zeros z e k) = rw e (refusal-bounded 13 0)
-asked-bounded (searched z x) = searched-bounded x
-
 pub both-cells : BothCells
 both-cells = record {
   costs = λ f m v d w c e. omega (arith, step-costs f m v d e);
@@ -45,6 +39,6 @@ both-cells = record {
   search = λ f m q r a r′ x. searched-bounded x;
   call = λ f m q r n r′ x. rw (x .numbers) (searched-bounded (x .searched));
   records = λ f m bytes r k bytes′ r′ x i h.
-      let y = answered-each f m (wholeRecords bytes) bytes r bytes′ r′ (x .records) i h in
-      (numbersOf (y .answer), y .leaves ∙ record-numbers (y .answer), asked-bounded (y .asked));
+      let y = each-record (λ f m q n room. Bounded n) (λ f m q r a r′ x. searched-bounded x) (λ f m q n p room. refusal-bounded n p) f m bytes r k bytes′ r′ x i h in
+      (y .0, y .1, y .2 .1);
 }

@@ -24,14 +24,12 @@ use Rattle.search.specs.declared.Answer.the-variants.{Found, None, Stopped}
 use Rattle.search.specs.declared.AnswerNumbers.{AnswerNumbers}
 use Rattle.search.specs.Search.{Question, Rooms, limitLine, lengthLines, searchLines, Searched, refused, passed, numbersOf}
 use Rattle.search.proofs.Lending.{some-limit}
-use Rattle.recordlayout.specs.Record.{questionIn}
-use Rattle.desk.specs.Desk.{Asked, no-zeros, searched, wholeRecords}
 use Rattle.tender.specs.SearchTable.{Answers}
 use Rattle.tender.specs.Limits.{Tells, LimitsFromOne}
 use Rattle.tender.proofs.FirstHolds.{first-condition}
 use Rattle.tender.proofs.Rowed.{law}
 use Rattle.tender.proofs.Tabled.{table-holds}
-use Rattle.tender.proofs.Records.{record-numbers, answered-each}
+use Rattle.tender.proofs.Records.{each-record}
 
 -- an answer for which 01's table holds, to a question with a limit from 1 on
 module _ (f : Floor) (m : List ℕ) (q : Question) (l : List ℕ) (lawful : Lawful (graph f m) leastStep greatestStep) (is : IsL (graph f m) (q .start) l)
@@ -78,11 +76,6 @@ searched-tells {f} {m} {q} {r} {a} (passed p x) =
       floor = floor-away f m q (t .0) (law x p) (t .1) some (numbersOf a) (t .3);
     }
 
--- a question record: 13 is a refusal too
-asked-tells : {f : Floor} {m question : List ℕ} {r : Rooms} {a : Answer} {r′ : Rooms} → Asked f m question r a r′ → Tells (questionIn question) (numbersOf a)
-asked-tells {question = question} (no-zeros z e k) = rw e (refusal-tells (questionIn question) 13 0)
-asked-tells (searched z x) = searched-tells x
-
 -- the limit's line alone
 zero-given : (k : ℕ) → screen (limitLine k ∷ []) ≡ Refused 15 0 → k ≡ 0
 zero-given k e = go (ℕ-discrete k 0)
@@ -118,6 +111,6 @@ limits-from-one = record {
   search = λ f m q r a r′ x. searched-tells x;
   call = λ f m q r n r′ x. rw (x .numbers) (searched-tells (x .searched));
   records = λ f m bytes r k bytes′ r′ x i h.
-      let y = answered-each f m (wholeRecords bytes) bytes r bytes′ r′ (x .records) i h in
-      (numbersOf (y .answer), y .leaves ∙ record-numbers (y .answer), asked-tells (y .asked));
+      let y = each-record (λ f m q n room. Tells q n) (λ f m q r a r′ x. searched-tells x) (λ f m q n p room. refusal-tells q n p) f m bytes r k bytes′ r′ x i h in
+      (y .0, y .1, y .2 .1);
 }

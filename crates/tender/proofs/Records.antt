@@ -1,4 +1,4 @@
--- The records of a buffer, one by one: the first lies apart from the others, and the rooms keep their lengths from one to the next.
+-- The records of a buffer, one by one: the first lies apart from the others, and the rooms keep their lengths from one to the next. What holds of searches and refusals then holds of each.
 use mathlib.Core.Path.{_≡_, refl, sym, _∙_, ap}
 use mathlib.Core.List.{List, _++_}
 use Prim.Native.Nat.{ℕ, zero, suc, _+_, _*_, _<_}
@@ -7,9 +7,10 @@ use lib.ListN.{take, drop}
 use lib.Seq.{take-at, drop-at, drop-drop}
 use Rattle.floor.specs.declared.Floor.{Floor}
 use Rattle.search.specs.declared.Answer.{Answer}
-use Rattle.search.specs.Search.{Rooms, numbersOf}
-use Rattle.recordlayout.specs.Record.{recordSize, recordFor, recordOf}
-use Rattle.desk.specs.Desk.{Asked, no-zeros, searched, Answered, recordAt}
+use Rattle.search.specs.declared.AnswerNumbers.{AnswerNumbers}
+use Rattle.search.specs.Search.{Question, Rooms, Searched, numbersOf}
+use Rattle.recordlayout.specs.Record.{recordSize, questionIn, waysIn, recordFor, recordOf}
+use Rattle.desk.specs.Desk.{withWays, Asked, no-zeros, searched, wholeRecords, Answered, recordAt, IsAnswered}
 use Rattle.recordlayout.proofs.Records.{record-length}
 use Rattle.tender.specs.SearchTable.{SameLengths}
 use Rattle.tender.proofs.Searches.{search-lengths}
@@ -78,3 +79,20 @@ module _ (f : Floor) (m : List ℕ) where
   rest-stays (suc n) bytes r bytes′ r′ x =
       behind-answer n (x .answer) (x .rest) bytes′ (x .leaves)
       ∙ rest-stays n (drop recordSize bytes) (x .between) (x .rest) r′ (x .others) ∙ sym (drop-first n bytes)
+
+-- what holds of every search and of every refusal, by the route room that is left, holds of every record of a buffer
+module _ (Holds : Floor → List ℕ → Question → AnswerNumbers → List ℕ → Type 0)
+    (of-search : (f : Floor) (m : List ℕ) (q : Question) (r : Rooms) (a : Answer) (r′ : Rooms) → Searched f m q r a r′ → Holds f m q (numbersOf a) (r′ .route))
+    (of-refusal : (f : Floor) (m : List ℕ) (q : Question) (n p : ℕ) (room : List ℕ) → Holds f m q (numbersOf (Answer.Refused n p)) room) where
+  of-asked : (f : Floor) (m question : List ℕ) (r : Rooms) (a : Answer) (r′ : Rooms) → Asked f m question r a r′
+      → Holds (withWays f (waysIn question)) m (questionIn question) (numbersOf a) (r′ .route)
+  of-asked f m question r a r′ (no-zeros z e l) = rw e (of-refusal (withWays f (waysIn question)) m (questionIn question) 13 0 (r′ .route))
+  of-asked f m question r a r′ (searched z x) = of-search (withWays f (waysIn question)) m (questionIn question) r a r′ x
+
+  pub each-record : (f : Floor) (m bytes : List ℕ) (r : Rooms) (k : ℕ) (bytes′ : List ℕ) (r′ : Rooms) → IsAnswered f m bytes r k bytes′ r′
+      → (i : ℕ) → i < wholeRecords bytes
+      → (n : AnswerNumbers) × (recordAt i bytes′ ≡ recordFor n)
+      × ((room : List ℕ) × Holds (withWays f (waysIn (recordAt i bytes))) m (questionIn (recordAt i bytes)) n room)
+  each-record f m bytes r k bytes′ r′ x i h =
+      let y = answered-each f m (wholeRecords bytes) bytes r bytes′ r′ (x .records) i h in
+      (numbersOf (y .answer), y .leaves ∙ record-numbers (y .answer), (y .left .route, of-asked f m (recordAt i bytes) (y .rooms) (y .answer) (y .left) (y .asked)))

@@ -1,5 +1,5 @@
 -- The third condition: a found route costs least and a floor no more than any route, and the floor crate compares true lengths by costs.
-use mathlib.Core.Path.{_≡_, refl, _∙_}
+use mathlib.Core.Path.{_≡_, refl}
 use mathlib.Core.List.{List, [], _∷_}
 use Prim.Native.Nat.{ℕ, _*_}
 use native.Mathlib.Omega.{arith}
@@ -13,11 +13,9 @@ use Rattle.floor.proofs.Lengths.{cost-over-length, cost-under-length, floor-und
 use Rattle.search.specs.declared.Answer.{Answer}
 use Rattle.search.specs.declared.Answer.the-variants.{Found, None, Stopped}
 use Rattle.search.specs.Search.{Question, Rooms, Searched, numbersOf}
-use Rattle.recordlayout.specs.Record.{questionIn, waysIn}
-use Rattle.desk.specs.Desk.{withWays, Asked, no-zeros, searched, wholeRecords}
 use Rattle.tender.specs.ThirdCondition.{Measured, ThirdCondition}
 use Rattle.tender.proofs.Rowed.{found-route, stopped-below}
-use Rattle.tender.proofs.Records.{record-numbers, answered-each}
+use Rattle.tender.proofs.Records.{each-record}
 
 -- an answer is found or stopped exactly by its kind
 found-is : (a : Answer) → numbersOf a .kind ≡ 1 → a ≡ Found (numbersOf a .settled) (numbersOf a .number) (numbersOf a .length)
@@ -49,25 +47,21 @@ module _ {f : Floor} {m : List ℕ} {q : Question} {r : Rooms} {a : Answer} {r�
             floor-under-length f m (q .start) es (w .allowed) (numbersOf a .number) (stopped-below x (numbersOf a .settled) (numbersOf a .number) (stopped-is a e) es w);
       }
 
--- a question record: a refusal is neither found nor stopped
-of-record : {f : Floor} {m question : List ℕ} {r : Rooms} {a : Answer} {r′ : Rooms} → Asked f m question r a r′
-    → Measured (withWays f (waysIn question)) m (questionIn question) (numbersOf a) (r′ .route)
-of-record (no-zeros z e l) = rw e (record {
+-- a refusal is neither found nor stopped
+of-refusal : (f : Floor) (m : List ℕ) (q : Question) (n p : ℕ) (room : List ℕ) → Measured f m q (numbersOf (Answer.Refused n p)) room
+of-refusal f m q n p room = record {
   nearly-shortest = λ k ds w. absurd (omega arith);
   cost-above = λ k. absurd (omega arith);
   cost-below = λ k. absurd (omega arith);
   floor-below = λ k ds w. absurd (omega arith);
-})
-of-record (searched z x) = of-search x
+}
 
 -- The third condition of the tender
 pub third-condition : ThirdCondition
 third-condition = record {
   search = λ f m q r a r′ x. of-search x;
   call = λ f m q r n r′ x. rw (x .numbers) (of-search (x .searched));
-  records = λ f m bytes r k bytes′ r′ x i h.
-      let y = answered-each f m (wholeRecords bytes) bytes r bytes′ r′ (x .records) i h in
-      (numbersOf (y .answer), y .leaves ∙ record-numbers (y .answer), (y .left .route, of-record (y .asked)));
+  records = each-record Measured (λ f m q r a r′ x. of-search x) of-refusal;
 }
 
 -- 01's example with the weights that 02's R-3 doubles: two diagonal steps of weight 2 have T² = 32 and cost 396, and 2 × 396² = 9801 × 32, so the bound is reached
