@@ -34,6 +34,7 @@
 mod wire; // wire.rt: numbers in bytes, rooms, replies
 
 ghost use Prim.Native.Nat.{_≤_};
+use answering::AnswerNumbers;
 use claims::RouteVerdict;
 use claims::routes::check_route;
 use claims::routes::fradnumber_check_route;
@@ -56,7 +57,6 @@ use routelog::EntryNumbers;
 use routelog::EntryWrittenNumbers;
 use routelog::fradnumber_read_entry;
 use routelog::fradnumber_write_entry;
-use search::AnswerNumbers;
 use search::rooms::fradnumber_search;
 use wire::adler;
 use wire::fill_bytes;

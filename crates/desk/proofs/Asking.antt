@@ -4,8 +4,10 @@ use mathlib.Core.Bool.{true}
 use mathlib.Core.List.{List}
 use Prim.Native.Nat.{ℕ}
 use Rattle.floor.specs.declared.Floor.{Floor}
-use Rattle.search.specs.declared.Answer.{Answer}
-use Rattle.search.specs.Search.{Rooms, question, Searched}
+use Rattle.answering.specs.declared.Answer.{Answer}
+use Rattle.answering.specs.Rooms.{Rooms}
+use Rattle.answering.specs.Question.{question}
+use Rattle.search.specs.Search.{Searched}
 use Rattle.recordlayout.specs.Record.{numberAt, waysIn, endsInZeros}
 use Rattle.desk.specs.Desk.{withWays, Asked, searched}
 

@@ -9,8 +9,8 @@ use lib.Seq.{length-paste, take-paste, drop-paste, drop-drop, take-length}
 use Rattle.floor.specs.declared.Floor.{Floor}
 use Rattle.putting.specs.Put.{IsPut}
 use Rattle.putting.proofs.Puts.{put-pasted}
-use Rattle.search.specs.declared.Answer.{Answer}
-use Rattle.search.specs.Search.{Rooms}
+use Rattle.answering.specs.declared.Answer.{Answer}
+use Rattle.answering.specs.Rooms.{Rooms}
 use Rattle.recordlayout.specs.Record.{recordSize, recordOf}
 use Rattle.recordlayout.proofs.Records.{record-length}
 use Rattle.desk.specs.Desk.{Asked, Answered, wholeRecords, IsAnswered}

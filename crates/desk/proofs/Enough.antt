@@ -18,8 +18,10 @@ use Rattle.floor.proofs.Lines.{number-between}
 use Rattle.maptext.specs.declared.Read.the-variants.{Map}
 use Rattle.maptext.specs.Reading as reading
 use Rattle.maptext.specs.Reading.{readFor}
-use Rattle.search.specs.declared.Answer.{Answer}
-use Rattle.search.specs.Search.{Rooms, roomLines, limitLine, searchLines, answered, rowOf, refused, passed, numbersOf}
+use Rattle.answering.specs.declared.Answer.{Answer}
+use Rattle.answering.specs.Answers.{answered, numbersOf}
+use Rattle.answering.specs.Rooms.{Rooms, roomLines}
+use Rattle.search.specs.Search.{limitLine, searchLines, rowOf, refused, passed}
 use Rattle.recordlayout.specs.Record.{questionIn, waysIn}
 use Rattle.mapuse.specs.Use.{greatestUsedCells, usedOf}
 use Rattle.mapuse.proofs.Using.{can-use}

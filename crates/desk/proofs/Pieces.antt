@@ -7,7 +7,7 @@ use native.Mathlib.Omega.{arith}
 use lib.ListN.{length, take, drop, take-append-drop, length-append, length-take, length-drop}
 use lib.Seq.{slice, take-take, take-append-le, drop-append-le, take-at, drop-at, length-take-le}
 use Rattle.floor.specs.declared.Floor.{Floor}
-use Rattle.search.specs.Search.{Rooms}
+use Rattle.answering.specs.Rooms.{Rooms}
 use Rattle.recordlayout.specs.Record.{recordSize, recordOf}
 use Rattle.recordlayout.proofs.Records.{record-length}
 use Rattle.desk.specs.Desk.{Answered, wholeRecords, IsAnswered}

@@ -5,8 +5,8 @@ use Prim.Native.Nat.{ℕ, zero, suc}
 use native.Mathlib.Omega.{arith}
 use lib.ListN.{take, drop, take-append-drop}
 use Rattle.floor.specs.declared.Floor.{Floor}
-use Rattle.search.specs.declared.Answer.{Answer}
-use Rattle.search.specs.Search.{Rooms}
+use Rattle.answering.specs.declared.Answer.{Answer}
+use Rattle.answering.specs.Rooms.{Rooms}
 use Rattle.search.proofs.Promise.{one-search}
 use Rattle.recordlayout.specs.Record.{recordSize, questionIn}
 use Rattle.desk.specs.Turn.{ArrivedAnswered, IsKept}

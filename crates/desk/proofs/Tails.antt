@@ -8,7 +8,7 @@ use native.Mathlib.Omega.{arith}
 use lib.ListN.{length, getD, set, take, drop, length-set, length-take, length-drop, drop-of-length-le, take-append-drop}
 use lib.Seq.{take-suc, take-suc-set, drop-set-lt, drop-drop, getD-drop, take-all, take-at, drop-at, take-add, slice}
 use Rattle.floor.specs.declared.Floor.{Floor}
-use Rattle.search.specs.Search.{Rooms}
+use Rattle.answering.specs.Rooms.{Rooms}
 use Rattle.desk.specs.Desk.{IsAnswered}
 use Rattle.desk.specs.Turn.{ArrivedAnswered, IsKept}
 

@@ -6,8 +6,9 @@ use Prim.Native.Nat.{ℕ, zero, suc, _*_, _/_}
 use lib.ListN.{length, take, drop}
 use Rattle.floor.specs.declared.Floor.{Floor}
 use Rattle.floor.specs.Place.{floorOf}
-use Rattle.search.specs.declared.Answer.{Answer}
-use Rattle.search.specs.Search.{Rooms, Searched}
+use Rattle.answering.specs.declared.Answer.{Answer}
+use Rattle.answering.specs.Rooms.{Rooms}
+use Rattle.search.specs.Search.{Searched}
 use Rattle.recordlayout.specs.Record.{recordSize, questionIn, waysIn, endsInZeros, recordOf}
 
 -- the floor with the ways of a question

@@ -1,7 +1,7 @@
 -- The rooms that the program lends are made once, before it knows the map: long enough for every map that can be used.
 use Prim.Native.Nat.{ℕ, _*_, _≤_}
 use lib.ListN.{length}
-use Rattle.search.specs.Search.{Rooms}
+use Rattle.answering.specs.Rooms.{Rooms}
 use Rattle.mapuse.specs.Use.{greatestUsedCells}
 
 pub record EnoughRoom (r : Rooms) : Type 0 where

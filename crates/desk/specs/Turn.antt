@@ -5,7 +5,7 @@ use Prim.Native.Nat.{ℕ}
 use lib.ListN.{length, take, drop}
 use lib.Seq.{slice}
 use Rattle.floor.specs.declared.Floor.{Floor}
-use Rattle.search.specs.Search.{Rooms}
+use Rattle.answering.specs.Rooms.{Rooms}
 use Rattle.desk.specs.Desk.{IsAnswered}
 
 -- A turn: what is written and then what is kept are the bytes kept before and those of the piece, with every whole record answered.

@@ -5,8 +5,8 @@ use Prim.Native.Nat.{ℕ}
 use lib.ListN.{take, drop}
 use lib.Seq.{paste}
 use Rattle.floor.specs.declared.Floor.{Floor}
-use Rattle.search.specs.declared.Answer.{Answer}
-use Rattle.search.specs.Search.{Rooms}
+use Rattle.answering.specs.declared.Answer.{Answer}
+use Rattle.answering.specs.Rooms.{Rooms}
 use Rattle.recordlayout.specs.Record.{recordSize, recordOf}
 use Rattle.desk.specs.Desk.{Asked}
 

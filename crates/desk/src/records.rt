@@ -1,10 +1,11 @@
 // Questions answered in place.
 ghost use Prim.Native.Nat.{_+_, _≤_};
 ghost use lib.ListN.{length};
-ghost use Rattle.search.specs.Search.{rooms};
+ghost use Rattle.answering.specs.Rooms.{rooms};
 ghost use Rattle.recordlayout.specs.Record.{recordSize};
 ghost use Rattle.desk.specs.Desk.{Asked, IsAnswered};
 ghost use Rattle.desk.specs.Working.{AnsweredAt};
+use answering::Answer;
 use floor::Floor;
 use putting::put;
 use recordlayout::RECORD_SIZE;
@@ -12,7 +13,6 @@ use recordlayout::answers::record_of;
 use recordlayout::fields::all_zero;
 use recordlayout::fields::number_at;
 use recordlayout::fields::widened;
-use search::Answer;
 use search::rooms::search;
 
 // 01: start, goal, limit (4 bytes each), ways (1), and zeros, which are looked at before all else.

@@ -2,7 +2,7 @@
 // the two, from where they stand: so these are two functions, and no answer is copied.
 ghost use mathlib.Core.Path.{_≡_};
 ghost use Prim.Native.Nat.{min};
-ghost use Rattle.search.specs.Search.{rooms};
+ghost use Rattle.answering.specs.Rooms.{rooms};
 ghost use Rattle.desk.specs.Turn.{ArrivedAnswered, IsKept};
 use crate::records::answer_records;
 use floor::Floor;

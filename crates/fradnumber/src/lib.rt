@@ -6,15 +6,17 @@ ghost use Rattle.maptext.specs.Reading.{readingOf, readFor};
 ghost use Rattle.maptext.specs.Calls.{readNumbers, ReadCalled, WriteCalled};
 ghost use Rattle.claims.specs.Route.{claim, routeVerdict, packed};
 ghost use Rattle.claims.specs.Table.{tableVerdict, asFault};
-ghost use Rattle.search.specs.Search.{question, rooms, Called};
+ghost use Rattle.answering.specs.Rooms.{rooms};
+ghost use Rattle.answering.specs.Question.{question};
+ghost use Rattle.search.specs.Search.{Called};
 ghost use Rattle.logentries.specs.Entry.{entryOf};
 ghost use Rattle.routelog.specs.Calls as log;
+use answering::AnswerNumbers;
 use maptext::ReadNumbers;
 use maptext::WrittenNumbers;
 use recordlayout::RECORD_SIZE;
 use routelog::EntryNumbers;
 use routelog::EntryWrittenNumbers;
-use search::AnswerNumbers;
 
 #[no_mangle]
 pub extern "C" fn fradnumber_check_route(

@@ -11,7 +11,7 @@ use lib.ListN.{getD, take, drop}
 use lib.Seq.{getD-drop}
 use Rattle.paths.specs.Graph.{MARK}
 use Rattle.paths.proofs.Bools.{T-and}
-use Rattle.search.specs.declared.AnswerNumbers.{AnswerNumbers}
+use Rattle.answering.specs.declared.AnswerNumbers.{AnswerNumbers}
 use Rattle.recordlayout.specs.Record.{numberAt, allZero, answerIn}
 use Rattle.recordlayout.proofs.Zeros.{zero-at}
 use Rattle.logentries.specs.Entry.{greatestRefusal, greatestLength, refusalFits, kindFits, canBeLogged, stepsIn}

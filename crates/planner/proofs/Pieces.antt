@@ -8,7 +8,7 @@ use lib.Dec.{T, eqb, eqb→eq}
 use lib.ListN.{length, take, drop, length-take, length-drop, length-append}
 use lib.Seq.{take-add}
 use Rattle.floor.specs.declared.Floor.{Floor}
-use Rattle.search.specs.Search.{Rooms}
+use Rattle.answering.specs.Rooms.{Rooms}
 use Rattle.recordlayout.specs.Record.{recordSize}
 use Rattle.desk.specs.Turn.{Turn, ArrivedAnswered, IsKept}
 use Rattle.desk.proofs.Pieces.{answers-within, turn-made, kept-length, kept-broken, no-piece, turn-on}

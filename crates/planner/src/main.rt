@@ -5,7 +5,7 @@ ghost use mathlib.Core.Bool.{false};
 ghost use mathlib.Core.List.{[]};
 ghost use Prim.Native.Nat.{_≤_, _<_};
 ghost use lib.ListN.{length, take};
-ghost use Rattle.search.specs.Search.{rooms};
+ghost use Rattle.answering.specs.Rooms.{rooms};
 ghost use Rattle.recordlayout.specs.Record.{recordSize};
 ghost use Rattle.streams.specs.Streams.{TextIn};
 ghost use Rattle.mapuse.specs.Use.{greatestText, greatestUsedCells};

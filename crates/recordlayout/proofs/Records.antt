@@ -8,10 +8,11 @@ use native.Mathlib.Omega.{arith}
 use lib.Arith.{mod-mul}
 use lib.ListN.{length, getD}
 use Rattle.paths.specs.Graph.{MARK}
-use Rattle.search.specs.declared.Answer.{Answer}
-use Rattle.search.specs.declared.Answer.the-variants.{Found}
-use Rattle.search.specs.declared.AnswerNumbers.{AnswerNumbers}
-use Rattle.search.specs.Search.{question, numbersOf}
+use Rattle.answering.specs.declared.Answer.{Answer}
+use Rattle.answering.specs.declared.Answer.the-variants.{Found}
+use Rattle.answering.specs.declared.AnswerNumbers.{AnswerNumbers}
+use Rattle.answering.specs.Answers.{numbersOf}
+use Rattle.answering.specs.Question.{question}
 use Rattle.recordlayout.specs.Record.{recordSize, little, numberAt, questionIn, waysIn, endsInZeros, recordFor, recordOf, answerIn}
 use Rattle.recordlayout.specs.Fields.{InRecord}
 

@@ -2,9 +2,9 @@
 use mathlib.Core.List.{List}
 use Prim.Native.Nat.{ℕ, _≤_, _<_}
 use Rattle.paths.specs.Graph.{MARK}
-use Rattle.search.specs.declared.Answer.{Answer}
-use Rattle.search.specs.declared.AnswerNumbers.{AnswerNumbers}
-use Rattle.search.specs.Search.{numbersOf}
+use Rattle.answering.specs.declared.Answer.{Answer}
+use Rattle.answering.specs.declared.AnswerNumbers.{AnswerNumbers}
+use Rattle.answering.specs.Answers.{numbersOf}
 use Rattle.recordlayout.specs.Record.{recordFor}
 
 -- the refusal number has room in its byte

@@ -3,8 +3,8 @@ ghost use mathlib.Core.Path.{_≡_};
 ghost use Rattle.recordlayout.specs.Record.{recordOf};
 ghost use Rattle.recordlayout.specs.Fields.{SmallRefusal, recordWith};
 use crate::RECORD_SIZE;
+use answering::Answer;
 use floor::MARK;
-use search::Answer;
 
 // 01: kind, refusal number, two zeros, settled, number returned, route length, numbers little-endian.
 pub fn record_with(

@@ -4,7 +4,7 @@ ghost use Prim.Native.Nat.{_+_, _≤_, _<_};
 ghost use lib.ListN.{length, take, drop};
 ghost use Rattle.recordlayout.specs.Record.{recordSize, numberAt, allZero, answerIn};
 use crate::RECORD_SIZE;
-use search::AnswerNumbers;
+use answering::AnswerNumbers;
 
 pub fn widened(byte: u8) -> u32
     ensures { λ r. ⌜ (r ≡ byte) × (r < 256) ⌝ }

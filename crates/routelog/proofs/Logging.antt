@@ -7,9 +7,9 @@ use borrow.Author.Tests.{ne-eqb, lt-ltb, le-leb}
 use lib.Dec.{T}
 use lib.ListN.{length}
 use Rattle.paths.specs.Graph.{MARK}
-use Rattle.search.specs.declared.Answer.{Answer}
-use Rattle.search.specs.declared.Answer.the-variants.{Found, None, Stopped}
-use Rattle.search.specs.Search.{numbersOf}
+use Rattle.answering.specs.declared.Answer.{Answer}
+use Rattle.answering.specs.declared.Answer.the-variants.{Found, None, Stopped}
+use Rattle.answering.specs.Answers.{numbersOf}
 use Rattle.recordlayout.specs.Record.{recordOf, answerIn}
 use Rattle.recordlayout.proofs.Records.{number-back}
 use Rattle.logentries.specs.Entry.{entryOf, routeSize, routeBytes, entryBytes, greatestRefusal, greatestLength, kindFits, canBeLogged, stepsIn}

@@ -24,8 +24,11 @@ use Rattle.floor.specs.Step.{graph}
 use Rattle.floor.specs.Refusal.{HasPassed}
 use Rattle.floor.proofs.Laws.{lawful, least-cost-bound}
 use Rattle.floor.proofs.Questions.{question-passed, start-inside, goal-inside}
-use Rattle.search.specs.declared.Answer.{Answer}
-use Rattle.search.specs.Search.{Question, Rooms, answered, Searched, numbersOf}
+use Rattle.answering.specs.declared.Answer.{Answer}
+use Rattle.answering.specs.Answers.{answered, numbersOf}
+use Rattle.answering.specs.Rooms.{Rooms}
+use Rattle.answering.specs.Question.{Question}
+use Rattle.search.specs.Search.{Searched}
 use Rattle.search.proofs.Lending.{search-question}
 use Rattle.search.proofs.Promise.{search-numbers}
 use Rattle.recordlayout.specs.Record.{recordSize, recordOf}

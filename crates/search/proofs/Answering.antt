@@ -16,13 +16,14 @@ use Rattle.floor.specs.declared.Floor.{Floor}
 use Rattle.floor.specs.Place.{cells}
 use Rattle.floor.specs.Step.{graph}
 use Rattle.floor.proofs.Laws.{lawful}
-use Rattle.search.specs.declared.Answer.{Answer}
-use Rattle.search.specs.declared.Answer.the-variants.{Found, None}
+use Rattle.answering.specs.declared.Answer.{Answer}
+use Rattle.answering.specs.declared.Answer.the-variants.{Found, None}
 use Rattle.wave.specs.declared.Band.{Band}
 use Rattle.ranks.specs.Listed.{AmongCells, keyBelow}
 use Rattle.wave.specs.Bands.{IsBand, Looked, none-open, is-last, is-next, Rounds}
 use Rattle.walkback.specs.Walks.{CanWalk}
-use Rattle.search.specs.Search.{Question, answered}
+use Rattle.answering.specs.Answers.{answered}
+use Rattle.answering.specs.Question.{Question}
 use Rattle.search.specs.Last.{CanStop, StoppedAt, Arrived, CanFinish, Finished}
 use Rattle.wave.proofs.Rounds.{band-top, band-rises, band-wave, band-counted, can-look}
 use Rattle.settling.proofs.Counts.{cheaper-most}

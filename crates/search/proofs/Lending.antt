@@ -3,17 +3,19 @@ use mathlib.Core.Path.{_≡_, refl}
 use mathlib.Core.List.{List, [], _∷_, _++_}
 use Prim.Native.Nat.{ℕ, _*_, _≤_}
 use native.Mathlib.Omega.{arith}
-use lib.Dec.{nltb→le}
 use lib.ListN.{length, drop, replicate}
 use Rattle.paths.proofs.Bools.{not-eqb-ne}
 use Rattle.floor.specs.declared.Floor.{Floor}
 use Rattle.floor.specs.declared.Screen.the-variants.{Passed, Refused}
 use Rattle.floor.specs.Place.{cells}
-use Rattle.floor.specs.Refusal.{Line, screen, questionLines}
+use Rattle.floor.specs.Refusal.{screen, questionLines}
 use Rattle.floor.proofs.Questions.{passed-both}
 use Rattle.floor.proofs.Screens.{none-given}
-use Rattle.search.specs.declared.Answer.{Answer}
-use Rattle.search.specs.Search.{Question, Rooms, rooms, roomLines, limitLine, searchLines, Searched, refused, passed}
+use Rattle.answering.specs.declared.Answer.{Answer}
+use Rattle.answering.specs.Rooms.{Rooms, rooms, lentLines}
+use Rattle.answering.specs.Question.{Question}
+use Rattle.search.specs.Search.{limitLine, searchLines, Searched, refused, passed}
+use Rattle.answering.proofs.Lending.{asked-well, enough-costs, enough-work, enough-route}
 use Rattle.search.specs.Last.{Finished}
 
 module _ (f : Floor) (m : List ℕ) (q : Question) (r : Rooms) where
@@ -21,27 +23,21 @@ module _ (f : Floor) (m : List ℕ) (q : Question) (r : Rooms) where
   searched-refused n p e = refused n p e refl refl
 
   module _ (e : screen (searchLines f m q r) ≡ Passed) where
-    abbrev room-lines : List Line
-    room-lines = roomLines f (length (r .costs)) (length (r .work)) (length (r .route))
-
     -- 1 to 11, and 15
-    both : (screen (questionLines f m (q .start) (q .goal) ++ room-lines) ≡ Passed) × (screen (limitLine (q .limit) ∷ []) ≡ Passed)
-    both = passed-both (questionLines f m (q .start) (q .goal) ++ room-lines) (limitLine (q .limit) ∷ []) e
-
-    parts : (screen (questionLines f m (q .start) (q .goal)) ≡ Passed) × (screen room-lines ≡ Passed)
-    parts = passed-both (questionLines f m (q .start) (q .goal)) room-lines (both .0)
+    both : (screen (lentLines f m (q .start) (q .goal) r) ≡ Passed) × (screen (limitLine (q .limit) ∷ []) ≡ Passed)
+    both = passed-both (lentLines f m (q .start) (q .goal) r) (limitLine (q .limit) ∷ []) e
 
     pub search-question : screen (questionLines f m (q .start) (q .goal)) ≡ Passed
-    search-question = parts .0
+    search-question = asked-well f m (q .start) (q .goal) r (both .0)
 
     pub long-costs : cells f ≤ length (r .costs)
-    long-costs = nltb→le (length (r .costs)) (cells f) (none-given room-lines (parts .1) .0)
+    long-costs = enough-costs f m (q .start) (q .goal) r (both .0)
 
     pub long-work : 2 * cells f ≤ length (r .work)
-    long-work = nltb→le (length (r .work)) (2 * cells f) (none-given room-lines (parts .1) .1 .0)
+    long-work = enough-work f m (q .start) (q .goal) r (both .0)
 
     pub long-route : cells f ≤ length (r .route)
-    long-route = nltb→le (length (r .route)) (cells f) (none-given room-lines (parts .1) .1 .1 .0)
+    long-route = enough-route f m (q .start) (q .goal) r (both .0)
 
     -- 02, R-2: a search that is not refused may settle a cell
     pub some-limit : 1 ≤ q .limit

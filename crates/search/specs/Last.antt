@@ -12,14 +12,16 @@ use Rattle.settling.specs.Cut.{cut}
 use Rattle.floor.specs.declared.Floor.{Floor}
 use Rattle.floor.specs.Place.{cells}
 use Rattle.floor.specs.Step.{graph}
-use Rattle.search.specs.declared.Answer.{Answer}
-use Rattle.search.specs.declared.Answer.the-variants.{Found, Stopped}
+use Rattle.answering.specs.declared.Answer.{Answer}
+use Rattle.answering.specs.declared.Answer.the-variants.{Found, Stopped}
 use Rattle.wave.specs.declared.Band.{Band}
 use Rattle.ranks.specs.Listed.{AmongCells}
 use Rattle.wave.specs.Bands.{Rounds}
 use Rattle.ranks.specs.Listed.{CanFind, IsNext}
 use Rattle.walkback.specs.Walks.{CanWalk}
-use Rattle.search.specs.Search.{Question, rowOf, answered}
+use Rattle.answering.specs.Answers.{answered}
+use Rattle.answering.specs.Question.{Question}
+use Rattle.search.specs.Search.{rowOf}
 
 pub record CanStop (costs work : List ℕ) (limit : ℕ) (b : Band) : Type 0 where
   pub among : AmongCells (length costs) work (b .front .from) (b .front .len)

@@ -1,7 +1,7 @@
 // The last band: it is cut at the goal or at the limit, and its cells are not expanded.
 ghost use Rattle.search.specs.Last.{CanStop, StoppedAt, CanArrive, Arrived, CanFinish, Finished};
-ghost use Rattle.search.specs.Search.{question};
-use crate::Answer;
+ghost use Rattle.answering.specs.Question.{question};
+use answering::Answer;
 use floor::Floor;
 use ranks::KEY_BASE;
 use ranks::cuts::key_of;

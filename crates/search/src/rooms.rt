@@ -5,17 +5,21 @@ ghost use Prim.Native.Nat.{_*_, _≤_, _<_};
 ghost use Rattle.floor.specs.Place.{cells, floorOf};
 ghost use Rattle.floor.specs.Refusal.{HasPassed, screen};
 ghost use Rattle.search.specs.Last.{Finished};
-ghost use Rattle.search.specs.Search.{question, rooms, limitedLines, Searched, numbersOf, Called};
-use crate::Answer;
-use crate::AnswerNumbers;
+ghost use Rattle.answering.specs.Answers.{numbersOf};
+ghost use Rattle.answering.specs.Rooms.{rooms};
+ghost use Rattle.answering.specs.Question.{question};
+ghost use Rattle.search.specs.Search.{limitedLines, Searched, Called};
 use crate::last::finish;
+use answering::Answer;
+use answering::AnswerNumbers;
+use answering::numbers::numbers_of;
+use answering::rooms::fill;
+use answering::rooms::screen_lengths;
 use floor::Floor;
-use floor::MARK;
 use floor::Screen;
-use wave::bands::fill;
 use wave::bands::settle;
 
-// Refusals 1 to 8 of the question, then 9 to 11 of the rooms' lengths, then 15 of the limit.
+// Refusals 1 to 11, then 15 of the limit.
 fn screen_search(
     f: Floor,
     map: &[u8],
@@ -28,20 +32,10 @@ fn screen_search(
 ) -> Screen
     ensures { λ r. ⌜ r ≡ screen (limitedLines f (now (map .entry)) (question start goal limit) costs work route) ⌝ }
 {
-    let question = screens::screen_question(f, map, start, goal);
-    match question {
+    let lengths = screen_lengths(f, map, start, goal, costs, work, route);
+    match lengths {
         Screen::Refused(number, place) => Screen::Refused(number, place),
         Screen::Passed => {
-            let cells = map.len();
-            if costs < cells {
-                return Screen::Refused(9, 0);
-            }
-            if work < 2 * cells {
-                return Screen::Refused(10, 0);
-            }
-            if route < cells {
-                return Screen::Refused(11, 0);
-            }
             if limit == 0 {
                 return Screen::Refused(15, 0);
             }
@@ -103,45 +97,6 @@ pub fn search(
                 route,
             )
         }
-    }
-}
-
-fn numbers_of(answer: Answer) -> AnswerNumbers
-    ensures { λ r. ⌜ r ≡ numbersOf answer ⌝ }
-{
-    match answer {
-        Answer::Refused(number, place) => AnswerNumbers {
-            kind: 0,
-            refusal: number as u64,
-            place: place as u64,
-            settled: 0,
-            number: 0,
-            length: 0,
-        },
-        Answer::Found(settled, cost, length) => AnswerNumbers {
-            kind: 1,
-            refusal: 0,
-            place: 0,
-            settled: settled as u64,
-            number: cost as u64,
-            length: length as u64,
-        },
-        Answer::None(settled) => AnswerNumbers {
-            kind: 2,
-            refusal: 0,
-            place: 0,
-            settled: settled as u64,
-            number: MARK as u64,
-            length: 0,
-        },
-        Answer::Stopped(settled, cost) => AnswerNumbers {
-            kind: 3,
-            refusal: 0,
-            place: 0,
-            settled: settled as u64,
-            number: cost as u64,
-            length: 0,
-        },
     }
 }
 

@@ -8,8 +8,8 @@ use native.Mathlib.Omega.{arith}
 use lib.ListN.{length, take, drop, length-take, length-drop}
 use lib.Seq.{take-all, take-at, drop-at, drop-length, drop-drop}
 use Rattle.floor.specs.declared.Floor.{Floor}
-use Rattle.search.specs.declared.Answer.{Answer}
-use Rattle.search.specs.Search.{Rooms}
+use Rattle.answering.specs.declared.Answer.{Answer}
+use Rattle.answering.specs.Rooms.{Rooms}
 use Rattle.recordlayout.specs.Record.{recordSize, questionIn, waysIn, endsInZeros, recordOf}
 use Rattle.desk.specs.Desk.{withWays, Asked, no-zeros, searched, Answered, wholeRecords, recordAt, IsAnswered}
 use Rattle.recordlayout.proofs.Records.{record-length}

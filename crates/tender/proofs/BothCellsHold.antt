@@ -8,8 +8,11 @@ use Rattle.floor.specs.Length.{plus, stepLength, lengthOf}
 use Rattle.floor.proofs.Laws.{step-costs, there-and-back, step-between, least-cost-bound}
 use Rattle.floor.proofs.Lengths.{length-step, cost-parts}
 use Rattle.floor.proofs.Questions.{question-passed}
-use Rattle.search.specs.declared.Answer.{Answer}
-use Rattle.search.specs.Search.{Question, Rooms, Searched, refused, passed, numbersOf}
+use Rattle.answering.specs.declared.Answer.{Answer}
+use Rattle.answering.specs.Answers.{numbersOf}
+use Rattle.answering.specs.Rooms.{Rooms}
+use Rattle.answering.specs.Question.{Question}
+use Rattle.search.specs.Search.{Searched, refused, passed}
 use Rattle.search.proofs.Lending.{search-question}
 use Rattle.tender.specs.BothCells.{Bounded, BothCells}
 use Rattle.tender.proofs.Rowed.{starts}

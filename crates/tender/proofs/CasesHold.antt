@@ -20,7 +20,8 @@ use Rattle.floor.specs.Step.{isDirection, target, stepWeight, stepCost, cutsCor
 use Rattle.floor.specs.Refusal.{firstAbove, screen, questionLines}
 use Rattle.floor.proofs.Laws.{lawful}
 use Rattle.floor.proofs.Questions.{passed-both, question-passed, start-inside}
-use Rattle.search.specs.Search.{roomLines, lengthLines, limitLine, rowOf}
+use Rattle.answering.specs.Rooms.{roomLines, lengthLines}
+use Rattle.search.specs.Search.{limitLine, rowOf}
 use Rattle.tender.specs.Cases.{Told, gives, refuses, Case, linesOf, HoldsAs, AllHold, cases}
 
 -- what is computed of a case, by what is told of it: whether it is refused, whether the table keeps the rule, and the row and the costs from the table

@@ -30,11 +30,14 @@ use Rattle.claims.proofs.Claims.{routeOf, route-back, tableOf, table-back, rout
 use Rattle.claims.proofs.Faults.{fault-exactly}
 use Rattle.claims.proofs.Collecting.{told-exactly}
 use Rattle.claims.proofs.TableCalls.{other-refused}
-use Rattle.search.specs.declared.Answer.{Answer}
-use Rattle.search.specs.declared.Answer.the-variants.{Found, None, Stopped}
-use Rattle.search.specs.declared.AnswerNumbers.{AnswerNumbers}
-use Rattle.search.specs.Search as answer
-use Rattle.search.specs.Search.{Question, Rooms, searchLines, rowOf, answered, Searched, refused, passed, Called}
+use Rattle.answering.specs.declared.Answer.{Answer}
+use Rattle.answering.specs.declared.Answer.the-variants.{Found, None, Stopped}
+use Rattle.answering.specs.declared.AnswerNumbers.{AnswerNumbers}
+use Rattle.answering.specs.Answers as answer
+use Rattle.answering.specs.Answers.{answered}
+use Rattle.answering.specs.Rooms.{Rooms}
+use Rattle.answering.specs.Question.{Question}
+use Rattle.search.specs.Search.{searchLines, rowOf, Searched, refused, passed, Called}
 use Rattle.search.proofs.Promise.{by-refusal}
 use Rattle.recordlayout.specs.Record.{questionIn, waysIn, recordOf}
 use Rattle.desk.specs.Desk.{withWays, Asked, no-zeros, searched, wholeRecords, recordAt, IsAnswered}

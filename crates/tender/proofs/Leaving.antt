@@ -15,8 +15,10 @@ use Rattle.floor.specs.declared.Floor.{Floor}
 use Rattle.floor.specs.declared.Screen.the-variants.{Passed}
 use Rattle.floor.specs.Place.{cells}
 use Rattle.floor.specs.Refusal.{screen}
-use Rattle.search.specs.declared.Answer.{Answer}
-use Rattle.search.specs.Search.{Question, Rooms, searchLines, ByTable}
+use Rattle.answering.specs.declared.Answer.{Answer}
+use Rattle.answering.specs.Rooms.{Rooms}
+use Rattle.answering.specs.Question.{Question}
+use Rattle.search.specs.Search.{searchLines, ByTable}
 use Rattle.search.proofs.Lending.{long-costs, long-work, long-route}
 use Rattle.tender.specs.SearchTable.{SameLengths}
 use Rattle.tender.proofs.Rowed.{given, law, starts, ends}

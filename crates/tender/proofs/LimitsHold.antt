@@ -19,10 +19,13 @@ use Rattle.floor.specs.Refusal.{Line, screen}
 use Rattle.floor.specs.Step.{leastStep, greatestStep, graph}
 use Rattle.floor.proofs.Screens.{andThen, screen-append}
 use Rattle.floor.proofs.Lines.{lowest-line, number-between}
-use Rattle.search.specs.declared.Answer.{Answer}
-use Rattle.search.specs.declared.Answer.the-variants.{Found, None, Stopped}
-use Rattle.search.specs.declared.AnswerNumbers.{AnswerNumbers}
-use Rattle.search.specs.Search.{Question, Rooms, limitLine, lengthLines, searchLines, Searched, refused, passed, numbersOf}
+use Rattle.answering.specs.declared.Answer.{Answer}
+use Rattle.answering.specs.declared.Answer.the-variants.{Found, None, Stopped}
+use Rattle.answering.specs.declared.AnswerNumbers.{AnswerNumbers}
+use Rattle.answering.specs.Answers.{numbersOf}
+use Rattle.answering.specs.Rooms.{Rooms, lengthLines}
+use Rattle.answering.specs.Question.{Question}
+use Rattle.search.specs.Search.{limitLine, searchLines, Searched, refused, passed}
 use Rattle.search.proofs.Lending.{some-limit}
 use Rattle.tender.specs.SearchTable.{Answers}
 use Rattle.tender.specs.Limits.{Tells, LimitsFromOne}

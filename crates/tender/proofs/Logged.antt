@@ -8,8 +8,8 @@ use lib.ListN.{length, drop, length-drop}
 use lib.Seq.{length-take-le}
 use Rattle.floor.specs.declared.Floor.{Floor}
 use Rattle.floor.specs.Place.{cells}
-use Rattle.search.specs.declared.Answer.{Answer}
-use Rattle.search.specs.Search.{Rooms}
+use Rattle.answering.specs.declared.Answer.{Answer}
+use Rattle.answering.specs.Rooms.{Rooms}
 use Rattle.recordlayout.specs.Record.{recordSize, questionIn, waysIn}
 use Rattle.routelog.proofs.Logging.{refused, answer-logged}
 use Rattle.routelog.proofs.Searches.{Logs, searched-logs, logs-entry}

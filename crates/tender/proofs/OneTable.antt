@@ -22,8 +22,10 @@ use Rattle.floor.specs.Step.{leastStep, greatestStep, graph}
 use Rattle.floor.specs.Refusal.{screen, questionLines}
 use Rattle.floor.proofs.Laws.{lawful}
 use Rattle.floor.proofs.Questions.{question-passed, start-inside}
-use Rattle.search.specs.declared.AnswerNumbers.{AnswerNumbers}
-use Rattle.search.specs.Search.{Question, Rooms, rooms, searchLines}
+use Rattle.answering.specs.declared.AnswerNumbers.{AnswerNumbers}
+use Rattle.answering.specs.Rooms.{Rooms, rooms}
+use Rattle.answering.specs.Question.{Question}
+use Rattle.search.specs.Search.{searchLines}
 use Rattle.search.proofs.Lending.{search-question, long-costs}
 use Rattle.tender.specs.SearchTable.{GoalWithin, GoalMissing, Otherwise, Answers, TableHolds}
 

@@ -6,9 +6,12 @@ use native.Mathlib.Omega.{arith}
 use lib.ListN.{take, drop}
 use lib.Seq.{take-at, drop-at, drop-drop}
 use Rattle.floor.specs.declared.Floor.{Floor}
-use Rattle.search.specs.declared.Answer.{Answer}
-use Rattle.search.specs.declared.AnswerNumbers.{AnswerNumbers}
-use Rattle.search.specs.Search.{Question, Rooms, Searched, numbersOf}
+use Rattle.answering.specs.declared.Answer.{Answer}
+use Rattle.answering.specs.declared.AnswerNumbers.{AnswerNumbers}
+use Rattle.answering.specs.Answers.{numbersOf}
+use Rattle.answering.specs.Rooms.{Rooms}
+use Rattle.answering.specs.Question.{Question}
+use Rattle.search.specs.Search.{Searched}
 use Rattle.recordlayout.specs.Record.{recordSize, questionIn, waysIn, recordFor, recordOf}
 use Rattle.desk.specs.Desk.{withWays, Asked, no-zeros, searched, wholeRecords, Answered, recordAt, IsAnswered}
 use Rattle.recordlayout.proofs.Records.{record-length}

@@ -19,9 +19,12 @@ use Rattle.floor.specs.Step.{leastStep, greatestStep, graph}
 use Rattle.floor.specs.Refusal.{screen, questionLines}
 use Rattle.floor.proofs.Laws.{lawful}
 use Rattle.floor.proofs.Questions.{question-passed, start-inside, goal-inside}
-use Rattle.search.specs.declared.Answer.{Answer}
-use Rattle.search.specs.declared.Answer.the-variants.{Found, Stopped}
-use Rattle.search.specs.Search.{Question, Rooms, searchLines, rowOf, answered, ByTable, Searched, refused, passed, numbersOf}
+use Rattle.answering.specs.declared.Answer.{Answer}
+use Rattle.answering.specs.declared.Answer.the-variants.{Found, Stopped}
+use Rattle.answering.specs.Answers.{answered, numbersOf}
+use Rattle.answering.specs.Rooms.{Rooms}
+use Rattle.answering.specs.Question.{Question}
+use Rattle.search.specs.Search.{searchLines, rowOf, ByTable, Searched, refused, passed}
 use Rattle.search.proofs.Lending.{search-question}
 
 -- a kind from its number in 01's table

@@ -15,8 +15,11 @@ use Rattle.floor.specs.Step.{graph}
 use Rattle.floor.specs.Refusal.{screen}
 use Rattle.floor.proofs.Laws.{lawful}
 use Rattle.floor.proofs.Questions.{question-passed, start-inside}
-use Rattle.search.specs.declared.Answer.{Answer}
-use Rattle.search.specs.Search.{Question, Rooms, searchLines, rowOf, answered, ByTable, Searched, refused, passed, numbersOf}
+use Rattle.answering.specs.declared.Answer.{Answer}
+use Rattle.answering.specs.Answers.{answered, numbersOf}
+use Rattle.answering.specs.Rooms.{Rooms}
+use Rattle.answering.specs.Question.{Question}
+use Rattle.search.specs.Search.{searchLines, rowOf, ByTable, Searched, refused, passed}
 use Rattle.search.proofs.Lending.{search-question, searched-refused}
 use Rattle.search.proofs.Promise.{by-table, by-refusal}
 use Rattle.tender.specs.SearchTable.{SameLengths}

@@ -26,8 +26,10 @@ use Rattle.claims.specs.Table.{right, tableVerdict}
 use Rattle.claims.proofs.Claims.{routeOf, route-back, tableOf, table-back, holds-exactly, right-exactly, settles-none, settles-cost}
 use Rattle.claims.proofs.Collecting.{accepted-exactly, accepted-cost}
 use Rattle.claims.proofs.TableCalls.{zero-right, forty-breaks}
-use Rattle.search.specs.declared.Answer.{Answer}
-use Rattle.search.specs.Search.{Rooms, searchLines, numbersOf}
+use Rattle.answering.specs.declared.Answer.{Answer}
+use Rattle.answering.specs.Answers.{numbersOf}
+use Rattle.answering.specs.Rooms.{Rooms}
+use Rattle.search.specs.Search.{searchLines}
 use Rattle.search.proofs.Promise.{by-table}
 use Rattle.recordlayout.specs.Record.{questionIn, waysIn, endsInZeros, recordOf}
 use Rattle.mapuse.specs.Use.{greatestText, greatestUsedSide, withinSides, usedOf, IsUsed}

@@ -22,9 +22,12 @@ use Rattle.floor.specs.declared.Screen.the-variants.{Passed}
 use Rattle.floor.specs.Place.{cells}
 use Rattle.floor.specs.Step.{graph}
 use Rattle.floor.specs.Refusal.{screen}
-use Rattle.search.specs.declared.Answer.{Answer}
-use Rattle.search.specs.declared.AnswerNumbers.{AnswerNumbers}
-use Rattle.search.specs.Search.{Question, Rooms, searchLines, answered, ByTable, numbersOf}
+use Rattle.answering.specs.declared.Answer.{Answer}
+use Rattle.answering.specs.declared.AnswerNumbers.{AnswerNumbers}
+use Rattle.answering.specs.Answers.{answered, numbersOf}
+use Rattle.answering.specs.Rooms.{Rooms}
+use Rattle.answering.specs.Question.{Question}
+use Rattle.search.specs.Search.{searchLines, ByTable}
 use Rattle.tender.specs.SearchTable.{GoalWithin, GoalMissing, Otherwise, BeginsWithRoute, Answers, TableHolds}
 use Rattle.tender.proofs.Rowed.{given, law, starts, ends, settled-is, code-answered, from-row, as-row}
 use Rattle.tender.proofs.Leaving.{costs-left, work-left, route-left, costs-cover, work-cover, lengths-stay}

@@ -10,9 +10,12 @@ use Rattle.floor.specs.declared.Floor.{Floor}
 use Rattle.floor.specs.Length.{surd, square, times, squared, stepLength, lengthOf}
 use Rattle.floor.specs.Step.{stepWeight, stepCost, target, graph}
 use Rattle.floor.proofs.Lengths.{cost-over-length, cost-under-length, floor-under-length, length-under-length}
-use Rattle.search.specs.declared.Answer.{Answer}
-use Rattle.search.specs.declared.Answer.the-variants.{Found, None, Stopped}
-use Rattle.search.specs.Search.{Question, Rooms, Searched, numbersOf}
+use Rattle.answering.specs.declared.Answer.{Answer}
+use Rattle.answering.specs.declared.Answer.the-variants.{Found, None, Stopped}
+use Rattle.answering.specs.Answers.{numbersOf}
+use Rattle.answering.specs.Rooms.{Rooms}
+use Rattle.answering.specs.Question.{Question}
+use Rattle.search.specs.Search.{Searched}
 use Rattle.tender.specs.ThirdCondition.{Measured, ThirdCondition}
 use Rattle.tender.proofs.Rowed.{found-route, stopped-below}
 use Rattle.tender.proofs.Records.{each-record}

@@ -11,9 +11,12 @@ use Rattle.floor.specs.Direction.{rowOf, opposite}
 use Rattle.floor.specs.Length.{plus, stepLength, lengthOf}
 use Rattle.floor.specs.Refusal.{HasPassed}
 use Rattle.floor.specs.Step.{leastStep, greatestStep, greatestCost, stepOf, graph}
-use Rattle.search.specs.declared.Answer.{Answer}
-use Rattle.search.specs.declared.AnswerNumbers.{AnswerNumbers}
-use Rattle.search.specs.Search.{Question, Rooms, Searched, numbersOf, Called}
+use Rattle.answering.specs.declared.Answer.{Answer}
+use Rattle.answering.specs.declared.AnswerNumbers.{AnswerNumbers}
+use Rattle.answering.specs.Answers.{numbersOf}
+use Rattle.answering.specs.Rooms.{Rooms}
+use Rattle.answering.specs.Question.{Question}
+use Rattle.search.specs.Search.{Searched, Called}
 use Rattle.recordlayout.specs.Record.{recordFor}
 use Rattle.desk.specs.Desk.{wholeRecords, recordAt, IsAnswered}
 

@@ -27,10 +27,12 @@ use Rattle.claims.specs.Route as route
 use Rattle.claims.specs.Route.{Claim, claimLines, routeVerdict, packed}
 use Rattle.claims.specs.Table as table
 use Rattle.claims.specs.Table.{tableLines, tableVerdict, asFault}
-use Rattle.search.specs.declared.Answer.{Answer}
-use Rattle.search.specs.declared.AnswerNumbers.{AnswerNumbers}
-use Rattle.search.specs.Search as answer
-use Rattle.search.specs.Search.{Question, Rooms, searchLines, Searched, Called}
+use Rattle.answering.specs.declared.Answer.{Answer}
+use Rattle.answering.specs.declared.AnswerNumbers.{AnswerNumbers}
+use Rattle.answering.specs.Answers as answer
+use Rattle.answering.specs.Rooms.{Rooms}
+use Rattle.answering.specs.Question.{Question}
+use Rattle.search.specs.Search.{searchLines, Searched, Called}
 use Rattle.routelog.specs.declared.Outcome.{Outcome}
 use Rattle.routelog.specs.declared.EntryRead.{EntryRead}
 use Rattle.routelog.specs.declared.EntryNumbers.{EntryNumbers}

@@ -8,9 +8,12 @@ use Rattle.floor.specs.declared.Floor.{Floor}
 use Rattle.floor.specs.declared.Screen.the-variants.{Passed}
 use Rattle.floor.specs.Refusal.{screen}
 use Rattle.floor.specs.Step.{leastStep}
-use Rattle.search.specs.declared.Answer.{Answer}
-use Rattle.search.specs.declared.AnswerNumbers.{AnswerNumbers}
-use Rattle.search.specs.Search.{Question, Rooms, lengthLines, searchLines, Searched, numbersOf, Called}
+use Rattle.answering.specs.declared.Answer.{Answer}
+use Rattle.answering.specs.declared.AnswerNumbers.{AnswerNumbers}
+use Rattle.answering.specs.Answers.{numbersOf}
+use Rattle.answering.specs.Rooms.{Rooms, lengthLines}
+use Rattle.answering.specs.Question.{Question}
+use Rattle.search.specs.Search.{searchLines, Searched, Called}
 use Rattle.recordlayout.specs.Record.{questionIn, recordFor}
 use Rattle.desk.specs.Desk.{wholeRecords, recordAt, IsAnswered}
 

@@ -11,8 +11,9 @@ use Rattle.settling.specs.List.{At, IsL}
 use Rattle.floor.specs.declared.Floor.{Floor}
 use Rattle.floor.specs.Place.{cells}
 use Rattle.floor.specs.Step.{graph}
-use Rattle.search.specs.declared.AnswerNumbers.{AnswerNumbers}
-use Rattle.search.specs.Search.{Question, Rooms}
+use Rattle.answering.specs.declared.AnswerNumbers.{AnswerNumbers}
+use Rattle.answering.specs.Rooms.{Rooms}
+use Rattle.answering.specs.Question.{Question}
 
 -- "goal in L, i < k"
 pub record GoalWithin (l : List ℕ) (q : Question) : Type 0 where

@@ -31,9 +31,12 @@ use Rattle.claims.specs.Route as route
 use Rattle.claims.specs.Route.{Claim, claimLines, routeVerdict, IsTrue, packed}
 use Rattle.claims.specs.Table as claimed
 use Rattle.claims.specs.Table.{IsLowest, tableLines, tableVerdict, asFault}
-use Rattle.search.specs.declared.Answer.{Answer}
-use Rattle.search.specs.declared.AnswerNumbers.{AnswerNumbers}
-use Rattle.search.specs.Search.{Question, Rooms, searchLines, Searched, numbersOf, Called}
+use Rattle.answering.specs.declared.Answer.{Answer}
+use Rattle.answering.specs.declared.AnswerNumbers.{AnswerNumbers}
+use Rattle.answering.specs.Answers.{numbersOf}
+use Rattle.answering.specs.Rooms.{Rooms}
+use Rattle.answering.specs.Question.{Question}
+use Rattle.search.specs.Search.{searchLines, Searched, Called}
 use Rattle.recordlayout.specs.Record.{questionIn, waysIn, endsInZeros, recordFor}
 use Rattle.mapuse.specs.Use.{IsUsed}
 use Rattle.desk.specs.Desk.{withWays, wholeRecords, recordAt, IsAnswered}

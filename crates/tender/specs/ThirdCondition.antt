@@ -8,9 +8,12 @@ use Rattle.paths.specs.Route.{Route}
 use Rattle.floor.specs.declared.Floor.{Floor}
 use Rattle.floor.specs.Length.{Surd, surd, square, atMost, times, squared, lengthOf}
 use Rattle.floor.specs.Step.{graph}
-use Rattle.search.specs.declared.Answer.{Answer}
-use Rattle.search.specs.declared.AnswerNumbers.{AnswerNumbers}
-use Rattle.search.specs.Search.{Question, Rooms, Searched, numbersOf, Called}
+use Rattle.answering.specs.declared.Answer.{Answer}
+use Rattle.answering.specs.declared.AnswerNumbers.{AnswerNumbers}
+use Rattle.answering.specs.Answers.{numbersOf}
+use Rattle.answering.specs.Rooms.{Rooms}
+use Rattle.answering.specs.Question.{Question}
+use Rattle.search.specs.Search.{Searched, Called}
 use Rattle.recordlayout.specs.Record.{questionIn, waysIn, recordFor}
 use Rattle.desk.specs.Desk.{withWays, wholeRecords, recordAt, IsAnswered}
 

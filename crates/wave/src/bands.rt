@@ -1,29 +1,20 @@
 // The wave. The work room holds two lists of open cells, one in each half: the band at hand, and those that wait for a later one.
 ghost use mathlib.Core.Path.{_≡_};
 ghost use Prim.Native.Nat.{_+_, _*_, _≤_, _<_};
-ghost use lib.ListN.{length, replicate};
+ghost use lib.ListN.{length};
 ghost use Rattle.paths.specs.Graph.{MARK};
 ghost use Rattle.floor.specs.Place.{cells};
 ghost use Rattle.floor.specs.Refusal.{HasPassed};
 ghost use Rattle.wave.specs.Bands.{Begun, CanSee, Seen, CanTake, Took, CanTakeAll, CanVisit, Visited, CanScan, Scanned, CanLook, Looked, CanGoOn, GoneOn, Rounds};
 use crate::Band;
 use crate::Front;
+use answering::rooms::fill;
 use floor::Floor;
 use floor::LEAST_STEP;
 use floor::MARK;
 use floor::Step;
 use ranks::lists::count_below;
 use ranks::lists::least_cost;
-
-pub fn fill(room: &mut [u32], value: u32)
-    ensures { λ r. ⌜ now (room .exit) ≡ replicate (length (now (room .entry))) value ⌝ }
-{
-    let mut i = 0;
-    while i < room.len() {
-        room[i] = value;
-        i += 1;
-    }
-}
 
 // Only the start has a cost, and it is the only open cell.
 fn begin(costs: &mut [u32], work: &mut [u32], start: usize) -> Front

@@ -4,7 +4,7 @@ use mathlib.Core.Bool.{true}
 use native.Mathlib.Omega.{arith}
 use borrow.Author.Needs.{needs}
 use lib.ListN.{length}
-use Rattle.search.specs.Search.{rooms}
+use Rattle.answering.specs.Rooms.{rooms}
 use Rattle.planner.specs.SoFar.{AllSoFar}
 use Rattle.planner.proofs.Pieces.{run-none, run-on, more-to-come}
 use Rattle.planner.proofs.answer_all.Statement.{statement}

@@ -2,7 +2,7 @@
 use mathlib.Core.Path.{_≡_, refl, _∙_}
 use native.Mathlib.Omega.{arith}
 use lib.ListN.{length}
-use Rattle.search.specs.Search.{rooms}
+use Rattle.answering.specs.Rooms.{rooms}
 use Rattle.desk.specs.Desk.{wholeRecords}
 use Rattle.desk.proofs.Buffers.{Answering, answering-none, answering-next, next-within, answering-all}
 use Rattle.desk.proofs.records.answer_records.Statement.{statement}

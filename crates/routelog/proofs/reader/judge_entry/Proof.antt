@@ -6,7 +6,7 @@ use native.Mathlib.Omega.{arith}
 use borrow.Rule.Slice.PartAt.{part-to-end}
 use borrow.Author.Needs.{needs}
 use Rattle.paths.proofs.Bools.{true-T}
-use Rattle.search.specs.declared.AnswerNumbers.{AnswerNumbers}
+use Rattle.answering.specs.declared.AnswerNumbers.{AnswerNumbers}
 use Rattle.recordlayout.specs.Record.{recordSize, answerIn}
 use Rattle.logentries.specs.Entry.{canBeLogged, stepsIn}
 use Rattle.routelog.specs.Reading.{answerAt}

@@ -4,7 +4,7 @@ use Prim.Native.Nat.{_+_, _-_, _≤_}
 use native.Mathlib.Omega.{arith}
 use borrow.Author.Needs.{needs}
 use lib.ListN.{length, length-drop}
-use Rattle.search.specs.declared.AnswerNumbers.{AnswerNumbers}
+use Rattle.answering.specs.declared.AnswerNumbers.{AnswerNumbers}
 use Rattle.recordlayout.specs.Record.{recordSize, answerIn}
 use Rattle.logentries.specs.Entry.{greatestLength, stepsIn}
 use Rattle.routelog.specs.Reading.{answerAt}

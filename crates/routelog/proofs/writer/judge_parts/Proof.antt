@@ -3,7 +3,7 @@ use mathlib.Core.Path.{_≡_, sym, ap, _∙_}
 use mathlib.Core.Bool.{true}
 use native.Mathlib.Omega.{arith}
 use borrow.Author.Needs.{needs}
-use Rattle.search.specs.declared.AnswerNumbers.{AnswerNumbers}
+use Rattle.answering.specs.declared.AnswerNumbers.{AnswerNumbers}
 use Rattle.logentries.specs.Entry.{canBeLogged, stepsIn}
 use Rattle.routelog.proofs.Writing.{answer-wrong, count-wrong, direction-wrong, parts-pass}
 use Rattle.routelog.proofs.writer.judge_parts.Statement.{statement}

@@ -8,7 +8,9 @@ use Rattle.floor.specs.declared.Screen.the-variants.{Passed}
 use Rattle.floor.specs.Place.{cells}
 use Rattle.floor.specs.Refusal.{screen}
 use Rattle.floor.proofs.Questions.{question-passed, question-covers, start-inside, goal-inside}
-use Rattle.search.specs.Search.{Question, Rooms, question, rooms, searchLines}
+use Rattle.answering.specs.Rooms.{Rooms, rooms}
+use Rattle.answering.specs.Question.{Question, question}
+use Rattle.search.specs.Search.{searchLines}
 use Rattle.search.proofs.Lending.{searched-refused, search-question, long-costs, long-work, long-route, searched-passed}
 use Rattle.search.proofs.rooms.search.Statement.{statement}
 use Rattle.search.proofs.rooms.search.Tie as tie

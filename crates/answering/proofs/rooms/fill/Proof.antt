@@ -6,8 +6,8 @@ use native.Mathlib.Omega.{arith}
 use borrow.Author.Fill.{fill-more}
 use lib.ListN.{length, set, length-set, drop, replicate}
 use lib.Seq.{drop-length}
-use Rattle.wave.proofs.bands.fill.Statement.{statement}
-use Rattle.wave.proofs.bands.fill.Tie as tie
+use Rattle.answering.proofs.rooms.fill.Statement.{statement}
+use Rattle.answering.proofs.rooms.fill.Tie as tie
 
 abbrev Inv-loop : tie.InvT-loop
 Inv-loop room₀ value i₀ room i = (i ≤ length room₀) × (room ≡ replicate i value ++ drop i room₀) × (length room ≡ length room₀)

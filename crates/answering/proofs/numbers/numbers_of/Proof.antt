@@ -1,9 +1,9 @@
 -- Each arm is the case of `numbersOf` that the match has found.
 use mathlib.Core.Path.{sym, ap}
 use borrow.Author.Needs.{needs}
-use Rattle.search.specs.Search.{numbersOf}
-use Rattle.search.proofs.rooms.numbers_of.Statement.{statement}
-use Rattle.search.proofs.rooms.numbers_of.Tie as tie
+use Rattle.answering.specs.Answers.{numbersOf}
+use Rattle.answering.proofs.numbers.numbers_of.Statement.{statement}
+use Rattle.answering.proofs.numbers.numbers_of.Tie as tie
 
 enum-known-answer : tie.Need-enum-known-answer
 enum-known-answer c = search needs
