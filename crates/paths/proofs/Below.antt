@@ -1,16 +1,17 @@
--- Laws of count, lowest, every and values, each by induction on the bound.
-use mathlib.Core.Path.{_≡_, refl, _∙_, ap, subst}
-use mathlib.Core.Logic.{_≢_}
+-- Laws of count, lowest, every and values, each by induction on the bound; and the least value so far, one value at a time.
+use mathlib.Core.Path.{_≡_, refl, sym, _∙_, ap, subst}
+use mathlib.Core.Logic.{_≢_, _⊎_, inl, inr}
 use mathlib.Core.Bool.{Bool, true, false, cond, not}
 use mathlib.Core.List.{[], _∷_}
-use Prim.Native.Nat.{ℕ, zero, suc, _≤_, _<_}
+use Prim.Native.Nat.{ℕ, zero, suc, _+_, _≤_, _<_}
 use native.Mathlib.Omega.{arith}
 use native.Mathlib.Decide.{ℕ-discrete, decLt}
 use native.Mathlib.Nat.{le-antisymm}
+use borrow.Author.Count.{below-more}
 use lib.Dec.{T, ltb, ltb→lt, nltb→le, T-not}
 use lib.ListN.{length, getD, length-append, List·getD-append}
 use lib.Seq.{getD-at}
-use Rattle.paths.specs.Below.{tick, count, lowest, every, values}
+use Rattle.paths.specs.Below.{tick, count, lowest, every, values, LeastOf}
 use Rattle.paths.proofs.Bools.{T-true, not-T-false, dec-T, T-and, by-cond}
 
 pub tick-le : (a : Bool) → tick a ≤ 1
@@ -169,3 +170,25 @@ getD-values f (suc n) v h = go (ℕ-discrete v n) (getD-values f n v)
     go : Dec (v ≡ n) → (v < n → getD (values f n) v 0 ≡ f v) → getD (values f (suc n)) v 0 ≡ f v
     go (yes e) ih = rw e (getD-at (values f n) (f n) [] 0 n (length-values f n))
     go (no e) ih = List·getD-append (values f n) (f n ∷ []) 0 v (omega (arith, length-values f n)) ∙ ih (omega arith)
+
+pub values-same : (f h : ℕ → ℕ) (n : ℕ) → ((v : ℕ) → v < n → f v ≡ h v) → values f n ≡ values h n
+values-same f h zero e = refl
+values-same f h (suc n) e = rw (values-same f h n (λ v k. e v (omega arith)), e n (omega arith))
+
+-- the least value so far
+pub least-first : (f : ℕ → ℕ) → LeastOf f 1 (f 0)
+least-first f = record { place = 0; place-in = omega arith; there = refl; least = λ k h. let z : k ≡ 0 = omega arith in rw z (omega arith) }
+
+pub least-more : (f : ℕ → ℕ) (i low low′ : ℕ) → LeastOf f i low → ((f i < low) × (low′ ≡ f i)) ⊎ ((low ≤ f i) × (low′ ≡ low)) → LeastOf f (i + 1) low′
+least-more f i low low′ l (inl w) = record {
+  place = i;
+  place-in = omega arith;
+  there = sym (w .1);
+  least = below-more (λ k. low′ ≤ f k) i (λ k h. omega (arith, l .least k h, w)) (omega (arith, w));
+}
+least-more f i low low′ l (inr w) = record {
+  place = l .place;
+  place-in = omega (arith, l .place-in);
+  there = l .there ∙ sym (w .1);
+  least = below-more (λ k. low′ ≤ f k) i (λ k h. omega (arith, l .least k h, w)) (omega (arith, w));
+}

@@ -1,7 +1,8 @@
--- Tests and values over the numbers below n: how many pass, the lowest that passes, whether all pass; a list of values.
+-- Tests and values over the numbers below n: how many pass, the lowest that passes, whether all pass; a list of values, and the least of them.
+use mathlib.Core.Path.{_≡_}
 use mathlib.Core.Bool.{Bool, true, false, cond, _&&_}
 use mathlib.Core.List.{List, [], _∷_, _++_}
-use Prim.Native.Nat.{ℕ, zero, suc, _+_}
+use Prim.Native.Nat.{ℕ, zero, suc, _+_, _≤_, _<_}
 use lib.Dec.{ltb}
 
 abbrev pub tick : Bool → ℕ
@@ -27,3 +28,10 @@ every p (suc n) = p n && every p n
 abbrev pub values : (ℕ → ℕ) → ℕ → List ℕ
 values f zero = []
 values f (suc n) = values f n ++ (f n ∷ [])
+
+-- r is the least of the values of f at 0, 1, .. n - 1
+pub record LeastOf (f : ℕ → ℕ) (n r : ℕ) : Type 0 where
+  pub place : ℕ
+  pub place-in : place < n
+  pub there : f place ≡ r
+  pub least : (k : ℕ) → k < n → r ≤ f k

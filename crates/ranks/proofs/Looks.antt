@@ -1,48 +1,22 @@
--- The two loops over the open cells, one cell at a time: the least cost so far, and how many so far are below the bound.
-use mathlib.Core.Path.{_≡_, sym, _∙_, ap}
+-- A loop over the open cells, one cell at a time: how many so far are below the bound.
+use mathlib.Core.Path.{_≡_, ap}
 use mathlib.Core.Logic.{_⊎_, inl, inr}
 use mathlib.Core.Bool.{Bool}
 use mathlib.Core.List.{List, [], _∷_}
 use Prim.Native.Nat.{ℕ, _+_, _≤_, _<_}
 use native.Mathlib.Omega.{arith}
-use borrow.Author.Count.{below-more}
 use borrow.Author.Tests.{lt-ltb, le-ltb}
 use lib.Dec.{ltb}
 use lib.ListN.{length, getD}
 use lib.Seq.{slice, slice-empty, length-slice}
 use Rattle.paths.specs.Below.{tick}
-use Rattle.ranks.specs.Listed.{IsLeast, belowIn}
+use Rattle.ranks.specs.Listed.{belowIn}
 use Rattle.settling.proofs.Slices.{slice-snoc, tally-append, tally-most}
 
 module _ (costs work : List ℕ) (from : ℕ) where
   -- the cost of the cell at place k of the list
   abbrev costAt : ℕ → ℕ
   costAt k = getD costs (getD work (from + k) 0) 0
-
-  pub least-first : IsLeast costs work from 1 (getD costs (getD work from 0) 0)
-  least-first =
-      let e : from + 0 ≡ from = omega arith in
-      record {
-        place = 0;
-        place-in = omega arith;
-        there = rw e;
-        least = λ k h. let z : k ≡ 0 = omega arith in rw (z, e) (omega arith);
-      }
-
-  pub least-more : (i low low′ : ℕ) → IsLeast costs work from i low
-      → ((costAt i < low) × (low′ ≡ costAt i)) ⊎ ((low ≤ costAt i) × (low′ ≡ low)) → IsLeast costs work from (i + 1) low′
-  least-more i low low′ l (inl w) = record {
-    place = i;
-    place-in = omega arith;
-    there = sym (w .1);
-    least = below-more (λ k. low′ ≤ costAt k) i (λ k h. omega (arith, l .least k h, w)) (omega (arith, w));
-  }
-  least-more i low low′ l (inr w) = record {
-    place = l .place;
-    place-in = omega (arith, l .place-in);
-    there = l .there ∙ sym (w .1);
-    least = below-more (λ k. low′ ≤ costAt k) i (λ k h. omega (arith, l .least k h, w)) (omega (arith, w));
-  }
 
   module _ (bound : ℕ) where
     pub below-none : belowIn costs work from 0 bound ≡ 0

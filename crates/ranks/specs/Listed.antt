@@ -5,6 +5,7 @@ use Prim.Native.Nat.{ℕ, suc, _+_, _≤_, _<_}
 use lib.Dec.{ltb}
 use lib.ListN.{length, getD}
 use lib.Seq.{slice}
+use Rattle.paths.specs.Below.{LeastOf}
 use Rattle.settling.specs.Order.{key}
 use Rattle.settling.specs.Cut.{tally}
 
@@ -14,11 +15,8 @@ pub record AmongCells (n : ℕ) (work : List ℕ) (from len : ℕ) : Type 0 wher
   pub cell : (k : ℕ) → k < len → getD work (from + k) 0 < n
 
 -- r is the least of their costs
-pub record IsLeast (costs work : List ℕ) (from len r : ℕ) : Type 0 where
-  pub place : ℕ
-  pub place-in : place < len
-  pub there : getD costs (getD work (from + place) 0) 0 ≡ r
-  pub least : (k : ℕ) → k < len → r ≤ getD costs (getD work (from + k) 0) 0
+abbrev pub IsLeast : List ℕ → List ℕ → ℕ → ℕ → ℕ → Type 0
+IsLeast costs work from len r = LeastOf (λ k. getD costs (getD work (from + k) 0) 0) len r
 
 -- how many of them have a cost below a bound
 unfoldable pub belowIn : List ℕ → List ℕ → ℕ → ℕ → ℕ → ℕ

@@ -1,10 +1,11 @@
 -- The invariant: the least cost of the first i cells of the list. The measure is what is left of the list.
-use mathlib.Core.Path.{_≡_}
+use mathlib.Core.Path.{_≡_, subst}
 use mathlib.Core.Logic.{inl, inr, ⊎-elim}
-use Prim.Native.Nat.{_+_, _-_, _≤_}
+use Prim.Native.Nat.{ℕ, _+_, _-_, _≤_}
 use native.Mathlib.Omega.{arith}
+use lib.ListN.{getD}
+use Rattle.paths.proofs.Below.{least-first, least-more}
 use Rattle.ranks.specs.Listed.{IsLeast}
-use Rattle.ranks.proofs.Looks.{least-first, least-more}
 use Rattle.ranks.proofs.lists.least_cost.Statement.{statement}
 use Rattle.ranks.proofs.lists.least_cost.Tie as tie
 
@@ -35,7 +36,8 @@ shared-slice-read-least c =
 loop-holds : tie.Need-loop-holds Inv-loop μ-loop
 loop-holds c =
     let s = c .before .before in
-    (omega arith, omega (arith, s .pre), least-first (s .args .costs .now) (s .args .work .now) (s .args .from))
+    let e : s .args .from + 0 ≡ s .args .from = omega arith in
+    (omega arith, omega (arith, s .pre), subst (λ (v : ℕ). IsLeast (s .args .costs .now) (s .args .work .now) (s .args .from) 1 (getD (s .args .costs .now) (getD (s .args .work .now) v 0) 0)) e (least-first _))
 
 add-at : tie.Need-add-at Inv-loop μ-loop
 add-at c = omega (arith, c .before .before .before .before .pre)
@@ -73,7 +75,7 @@ loop-again c =
     let s = c .before .before .before .before .before .before .before in (
       omega arith,
       omega arith,
-      least-more (s .args .costs .now) (s .args .work .now) (s .args .from) (l .i) (l .least) (c .if1 .least) (l .inv .2)
+      least-more _ (l .i) (l .least) (c .if1 .least) (l .inv .2)
           (⊎-elim (λ w. inl (w .0 .taken, w .1)) (λ w. inr (w .0 .left, w .1)) (c .if1 .came)),
     )
 
