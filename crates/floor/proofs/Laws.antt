@@ -20,7 +20,7 @@ use Rattle.floor.specs.declared.Place.{Place}
 use Rattle.floor.specs.declared.Step.the-variants.{To}
 use Rattle.floor.specs.Direction.{rowOf, eastOf, southOf, opposite}
 use Rattle.floor.specs.Place.{cells, at, placeOf, cellAt, moved, corner, isOpen}
-use Rattle.floor.specs.Step.{isDirection, target, stepWeight, leastStepWeight, greatestStepWeight, stepCost, leastStep, greatestStep, greatestCost, stepOf, allowed, graph}
+use Rattle.floor.specs.Step.{isDirection, target, stepWeight, leastStepWeight, greatestStepWeight, stepCost, leastStep, leastDiagonal, greatestStep, greatestCost, stepOf, allowed, graph}
 use Rattle.floor.specs.Allowed.{Allowed}
 use Rattle.floor.specs.Refusal.{HasPassed}
 use Rattle.floor.proofs.Passing.{MapFacts, facts, few-cells}
@@ -75,7 +75,7 @@ module _ (f : Floor) (m : List ℕ) (v d : ℕ) (a : Allowed f m v d) where
   there : OnMap f (moved (placeOf f v) d)
   there = on-map f (moved (placeOf f v) d) (open-on-map f m (moved (placeOf f v) d) (a .there))
 
-  place-of-target : placeOf f (target f v d) ≡ moved (placeOf f v) d
+  pub place-of-target : placeOf f (target f v d) ≡ moved (placeOf f v) d
   unfolding target
   place-of-target = place-of-cell f (moved (placeOf f v) d) there
 
@@ -137,9 +137,13 @@ module _ (f : Floor) (m : List ℕ) (v d : ℕ) (a : Allowed f m v d) where
   unfolding stepWeight
   weight-most k = omega (arith, k .weights v, k .weights (target f v d))
 
-  cost-least : leastStep ≤ stepCost m d v (target f v d)
+  -- at least what it would cost between two cells of weight 1
+  pub cost-unit : rowOf d .unit * leastStepWeight ≤ stepCost m d v (target f v d)
   unfolding stepCost
-  cost-least = le-trans (turns d below .least) (mul-le-mul-left (rowOf d .unit) weight-least)
+  cost-unit = mul-le-mul-left (rowOf d .unit) weight-least
+
+  cost-least : leastStep ≤ stepCost m d v (target f v d)
+  cost-least = le-trans (turns d below .least) cost-unit
 
   cost-most : MapFacts f m → stepCost m d v (target f v d) ≤ greatestStep
   unfolding stepCost
@@ -216,9 +220,12 @@ module _ (f : Floor) (m : List ℕ) where
     pub least-cost-bound : (s v c : ℕ) → s < cells f → Least (graph f m) s v c → c ≤ greatestCost
     least-cost-bound s v c h l = omega (arith, least-cost-most lawful s h v c l, few-cells good)
 
--- the numbers of 02, R-3
+-- the numbers of 02, R-3 and R-4
 least-step : leastStep ≡ 140
 least-step = refl
+
+least-diagonal : leastDiagonal ≡ 198
+least-diagonal = refl
 
 greatest-step : greatestStep ≡ 1782
 greatest-step = refl

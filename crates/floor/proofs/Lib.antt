@@ -5,6 +5,7 @@ pub mod Rows
 pub mod Places
 pub mod Allowed
 pub mod Laws
+pub mod Estimating
 pub mod Entering
 pub mod Lengths
 pub mod Questions

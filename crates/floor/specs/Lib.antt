@@ -2,6 +2,7 @@ pub mod Direction
 pub mod Place
 pub mod Step
 pub mod Allowed
+pub mod Estimate
 pub mod Length
 pub mod FourLines
 pub mod Refusal

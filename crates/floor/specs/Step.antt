@@ -41,6 +41,10 @@ leastStep = 70 * leastStepWeight
 abbrev pub greatestStep : ℕ
 greatestStep = 99 * greatestStepWeight
 
+-- what a diagonal step of the least weight costs
+abbrev pub leastDiagonal : ℕ
+leastDiagonal = 99 * leastStepWeight
+
 -- the bound of a least cost: the greatest step for each cell but one
 abbrev pub greatestCost : ℕ
 greatestCost = (greatestSide * greatestSide - 1) * greatestStep

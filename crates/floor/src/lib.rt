@@ -1,7 +1,8 @@
-// The floor: the value that travels beside a map's bytes, the table of directions and the step test; what of a floor is refused, and when a question has passed.
+// The floor: the value that travels beside a map's bytes, the table of directions, the step test and the estimate; what of a floor is refused, and when a question has passed.
 // specs/ says what they mean; docs/PROMISES.md has a row for each public function.
 
 pub mod steps; // steps.rt: the step test
+pub mod estimates; // estimates.rt: what is at least left to a goal
 
 // 01: width and height are 1 to 256 each.
 pub const GREATEST_SIDE: usize = 256;
@@ -23,6 +24,9 @@ pub const DIAGONAL: u32 = 99;
 
 // No step costs less: a straight one between two cells of weight 1.
 pub const LEAST_STEP: u32 = STRAIGHT * 2;
+
+// And no diagonal one less than this, between two such cells.
+pub const LEAST_DIAGONAL: u32 = DIAGONAL * 2;
 
 // 01: MARK means "no cost".
 pub const MARK: u32 = 4294967295;

@@ -50,7 +50,8 @@ fn shifted(n: usize, by: i32) -> usize
     n - 1
 }
 
-fn place_of(f: Floor, cell: usize) -> Place
+// Public so that a goal's place can be worked out once for many estimates. It is no entry.
+pub fn place_of(f: Floor, cell: usize) -> Place
     requires { ⌜ (0 < f .width) × (cell < MARK) ⌝ }
     ensures { λ r. ⌜ r ≡ placeOf f cell ⌝ }
 {
