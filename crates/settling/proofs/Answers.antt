@@ -20,7 +20,7 @@ use Rattle.settling.specs.Cut.{cheaperThan, rank, cut, Agree}
 use Rattle.paths.proofs.Bools.{dec-T}
 use Rattle.paths.proofs.Below.{count-same, length-values, getD-values}
 use Rattle.settling.proofs.Orders.{known-is, is-known, known-in, in-known, length-sorted, place-in, place-absent}
-use Rattle.settling.proofs.Waves.{least-fits}
+use Rattle.settling.proofs.Waves.{value-fits}
 use Rattle.settling.proofs.Cuts.{key-from, place-rank, place-late, rank-suc, left-cut, Next, next-cell}
 use Rattle.settling.proofs.Walking.{first-same, plain, agree-plain, near-plain}
 
@@ -77,9 +77,7 @@ module _ {g : Graph} {least most : ℕ} (law : Lawful g least most) (s : ℕ) wh
   -- every cell that can be reached is settled, and the goal is none of them
   module _ (i : s < g .cells) (t : List ℕ) (right : Right g s t) (costs : List ℕ) (a : Agree t costs MARK) (small : (v : ℕ) → getD costs v 0 ≤ MARK) where
     known-below : (v : ℕ) → v < length t → T (known t v) → getD t v 0 < MARK
-    known-below v h k =
-        let l = right .reached v (omega (arith, right .covers)) (known-is t v k) in
-        omega (arith, least-fits law s i v (getD t v 0) l)
+    known-below v h k = value-fits law s i t right v (omega (arith, right .covers)) (known-is t v k)
 
     known-costs : (v : ℕ) → v < length t → T (known t v) → getD costs v 0 ≡ getD t v 0
     known-costs v h k = a .back v h (known-below v h k)

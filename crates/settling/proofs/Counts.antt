@@ -1,6 +1,6 @@
 -- How many cells are below a bound and how many wait, each as a count over all cells; and costs below the bound are least costs, so they stay.
 use mathlib.Core.Path.{_≡_, refl}
-use mathlib.Core.Bool.{Bool, true, _&&_}
+use mathlib.Core.Bool.{true, _&&_}
 use mathlib.Core.List.{List}
 use Prim.Native.Nat.{ℕ, zero, suc, _≤_, _<_}
 use native.Mathlib.Decide.{decLt}
@@ -10,7 +10,7 @@ use lib.Dec.{ltb, ltb→lt, lt→ltb}
 use lib.ListN.{length, getD}
 use Rattle.paths.specs.Below.{tick, count}
 use Rattle.paths.specs.Graph.{Graph, Lawful}
-use Rattle.settling.specs.Cut.{tally, cheaperThan}
+use Rattle.settling.specs.Cut.{cheaperThan}
 use Rattle.settling.specs.Wave.{occ, Wave}
 use Rattle.paths.proofs.Below.{count-le, count-same, count-strict}
 use Rattle.paths.proofs.Bools.{T-and}
@@ -32,29 +32,26 @@ cheaper-none costs = none (length costs)
     none zero = refl
     none (suc n) = rw (le-ltb (getD costs n 0) 0 (omega arith)) (omega (arith, none n))
 
+-- a list in which each cell stands once at most, and nothing else: it is short where a cell does not stand there
+pub room : (n : ℕ) (l : List ℕ) → ((v : ℕ) → v < n → occ v l ≤ 1) → ((v : ℕ) → n ≤ v → occ v l ≡ 0) → (v : ℕ) → v < n → occ v l ≡ 0 → length l < n
+room n l once off v h e =
+    let c = count-strict (λ v. ltb 0 (occ v l) && true) (λ v. true) n (λ v h t. tt) v h
+    (λ t. let p = ltb→lt 0 (occ v l) (T-and (ltb 0 (occ v l)) true t .0) in omega arith) tt in
+    omega (arith, tally-all l, tally-count (λ v. true) (λ v. ltb 0 (occ v l)) n l off (λ v h. tick-once (occ v l) (once v h)), c, count-le (λ v. true) n)
+  where
+    tick-once : (n : ℕ) → n ≤ 1 → n ≡ tick (ltb 0 n)
+    tick-once zero l = refl
+    tick-once (suc zero) l = refl
+    tick-once (suc (suc n)) l = absurd (omega arith)
+
+-- so there is room for one more where a cell does not wait for a later band
 module _ {g : Graph} {least s : ℕ} {costs : List ℕ} {bound : ℕ} {waiting later : List ℕ} (w : Wave g least s costs bound waiting later) where
-  -- a cell waits for a later band once at most
-  once : (v : ℕ) → v < g .cells → occ v later ≡ tick (ltb 0 (occ v later))
-  once v h = go (occ v later) (most (decLt (getD costs v 0) bound))
-    where
-      most : Dec (getD costs v 0 < bound) → occ v later ≤ 1
-      most (yes b) = omega (arith, w .passed v h b)
-      most (no b) = omega (arith, w .listed v h (omega arith))
-
-      go : (n : ℕ) → n ≤ 1 → n ≡ tick (ltb 0 n)
-      go zero l = refl
-      go (suc zero) l = refl
-      go (suc (suc n)) l = absurd (omega arith)
-
-  later-count : (p : ℕ → Bool) → tally p later ≡ count (λ v. ltb 0 (occ v later) && p v) (g .cells)
-  later-count p = tally-count p (λ v. ltb 0 (occ v later)) (g .cells) later (λ v h. omega (arith, w .inside v h)) once
-
-  -- so there is room for one more where a cell does not wait
   pub later-room : (v : ℕ) → v < g .cells → occ v later ≡ 0 → length later < g .cells
-  later-room v h e =
-      let c = count-strict (λ v. ltb 0 (occ v later) && true) (λ v. true) (g .cells) (λ v h t. tt) v h
-      (λ t. let l = ltb→lt 0 (occ v later) (T-and (ltb 0 (occ v later)) true t .0) in omega arith) tt in
-      omega (arith, tally-all later, later-count (λ v. true), c, count-le (λ v. true) (g .cells))
+  later-room = room (g .cells) later (λ v h. once v h (decLt (getD costs v 0) bound)) (λ v h. omega (arith, w .inside v h))
+    where
+      once : (v : ℕ) → v < g .cells → Dec (getD costs v 0 < bound) → occ v later ≤ 1
+      once v h (yes b) = omega (arith, w .passed v h b)
+      once v h (no b) = omega (arith, w .listed v h (omega arith))
 
 module _ {g : Graph} {least most : ℕ} (law : Lawful g least most) (s : ℕ) {bound : ℕ} where
   -- costs below the bound stay what they are

@@ -10,8 +10,7 @@ use borrow.Author.Tests.{lt-ltb, le-ltb}
 use lib.Arith.{digits-div}
 use lib.Dec.{T, ltb, ltb→lt, lt→ltb}
 use lib.ListN.{length, getD}
-use lib.Seq.{ext-getD}
-use Rattle.paths.specs.Below.{count, values}
+use Rattle.paths.specs.Below.{count}
 use Rattle.paths.specs.Graph.{Graph, Lawful, MARK}
 use Rattle.paths.specs.Route.{costOf, Route}
 use Rattle.paths.specs.Table.{Right}
@@ -20,7 +19,7 @@ use Rattle.settling.specs.Answer.{costsLeft}
 use Rattle.settling.specs.Wave.{Wave}
 use Rattle.settling.specs.Cut.{cheaperThan, rank, cut, Agree}
 use Rattle.paths.proofs.Bools.{dec-T, T-and, and-T}
-use Rattle.paths.proofs.Below.{count-mono, count-strict, count-same, count-one-more, count-gap, length-values, getD-values}
+use Rattle.paths.proofs.Below.{count-mono, count-strict, count-same, count-one-more, count-gap, values-same}
 use Rattle.paths.proofs.Exists.{least-unique}
 use Rattle.settling.proofs.Orders.{is-known, key-apart, place-in, place-absent, at-place, known-in, in-known, length-sorted, place-count}
 use Rattle.settling.proofs.Waves.{below-least, reached, occ-none}
@@ -177,10 +176,6 @@ module _ (t costs : List ℕ) (bound : ℕ) (a : Agree t costs bound) (top : bou
         (values-same (λ v. cond (ltb (place v (L t)) (rank costs k)) (getD t v 0) MARK) (λ v. cond (ltb (key costs v) k) (getD costs v 0) MARK) (length t)
         (λ v i. same v i (decLt (key costs v) k)))
       where
-        values-same : (f h : ℕ → ℕ) (n : ℕ) → ((v : ℕ) → v < n → f v ≡ h v) → values f n ≡ values h n
-        values-same f h n e = ext-getD 0 (values f n) (values h n) (length-values f n ∙ sym (length-values h n))
-            (λ v i. let j : v < n = omega (arith, length-values f n) in getD-values f n v j ∙ e v j ∙ sym (getD-values h n v j))
-
         same : (v : ℕ) → v < length t → Dec (key costs v < k)
             → cond (ltb (place v (L t)) (rank costs k)) (getD t v 0) MARK ≡ cond (ltb (key costs v) k) (getD costs v 0) MARK
         same v h (yes l) = rw (lt-ltb (place v (L t)) (rank costs k) (place-early v h l), lt-ltb (key costs v) k l) (a .there v h (key-below costs v k l fits))

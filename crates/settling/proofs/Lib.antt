@@ -10,3 +10,6 @@ pub mod Cuts
 pub mod Walking
 pub mod Answers
 pub mod Outcomes
+pub mod Spreads
+pub mod Aims
+pub mod AimedPlain

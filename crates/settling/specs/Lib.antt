@@ -4,3 +4,5 @@ pub mod Answer
 pub mod Wave
 pub mod Cut
 pub mod Estimate
+pub mod Spread
+pub mod Aimed
