@@ -1,0 +1,4 @@
+pub mod Totals
+pub mod Joining
+pub mod Listings
+pub mod Passing
