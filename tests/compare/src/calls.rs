@@ -1,5 +1,6 @@
-//! Calls of the program `calls` (crates/calls/src/main.rt has the form), and the replies that 01 and ask for.
+//! Calls of the program `calls` (crates/calls/src/main.rt has the form), and the replies that 01 and ask for.
 
+use crate::astar::astar;
 use crate::claims::{check_route, check_table, RouteVerdict, TableVerdict};
 use crate::floor::{Floor, Refusal, MARK};
 use crate::log::{read_entry, write_entry, Entry};
@@ -24,6 +25,7 @@ pub enum What {
     WriteMap,
     ReadEntry,
     WriteEntry,
+    Astar,
 }
 
 /// One call. A part that `what` has no use for is empty or 0.
@@ -35,7 +37,7 @@ pub struct Call {
     pub ways: u32,
     pub start: u32,
     pub goal: u32,
-    /// the limit of a search, the cost of a route claim
+    /// the limit of a search, the cost of a route claim; A* does not look at it
     pub limit: u32,
     /// also question and answer for the log's writer
     pub map: Vec<u8>,
@@ -45,7 +47,7 @@ pub struct Call {
     pub text: Vec<u8>,
     pub costs_room: usize,
     pub work_room: usize,
-    /// the route room of a search and of the log's reader, the cell room of the map's reader, the text room of the writers
+    /// the route room of a search, of A* and of the log's reader, the cell room of the map's reader, the text room of the writers
     pub byte_room: usize,
 }
 
@@ -87,7 +89,7 @@ impl Call {
             text: Vec::new(),
         };
         match self.what {
-            What::Search => {
+            What::Search | What::Astar => {
                 rooms.costs = vec![OLD_COST; self.costs_room];
                 rooms.work = vec![OLD_WORK; self.work_room];
                 rooms.route = vec![OLD_BYTE; self.byte_room];
@@ -122,6 +124,7 @@ impl Call {
             What::WriteMap => 5,
             What::ReadEntry => 12,
             What::WriteEntry => 13,
+            What::Astar => 14,
         };
         let rooms = self.before();
         let given = FiveRooms {
@@ -174,7 +177,7 @@ impl Call {
     pub fn expected(&self) -> Vec<u8> {
         let mut rooms = self.before();
         let six = match self.what {
-            What::Search => self.expected_search(&mut rooms),
+            What::Search | What::Astar => self.expected_search(&mut rooms),
             What::RouteClaim => self.expected_route_verdict(),
             What::TableClaim => self.expected_table_verdict(),
             What::ReadMap => self.expected_reading(&mut rooms),
@@ -187,20 +190,18 @@ impl Call {
         reply
     }
 
+    /// The answer of the search, or of A*.
     fn expected_search(&self, lent: &mut FiveRooms) -> [u64; 6] {
         let mut rooms = Rooms {
             costs: lent.costs.clone(),
             work: lent.work.clone(),
             route: lent.route.clone(),
         };
-        let answer = search(
-            self.floor(),
-            &self.map,
-            self.start as u64,
-            self.goal as u64,
-            self.limit as u64,
-            &mut rooms,
-        );
+        let (floor, start, goal) = (self.floor(), self.start as u64, self.goal as u64);
+        let answer = match self.what {
+            What::Astar => astar(floor, &self.map, start, goal, &mut rooms),
+            _ => search(floor, &self.map, start, goal, self.limit as u64, &mut rooms),
+        };
         lent.costs = rooms.costs;
         lent.work = rooms.work;
         lent.route = rooms.route;

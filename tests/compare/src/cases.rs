@@ -1,6 +1,7 @@
-//! The floors to try of 01, with the answers that 01 gives, R-2 for case h and R-3 for the costs, and one of them as an entry of R-1's log: the
-//! plain planner is held against these before it is compared with anything.
+//! The floors to try of 01, with the answers that 01 gives, R-2 for case h and R-3 for the costs, one of them as an entry of R-1's log, and all as
+//! questions to R-4's A*: the plain planner is held against these before it is compared with anything.
 
+use crate::astar::astar;
 use crate::calls::{Call, What};
 use crate::claims::{check_route, check_table, RouteVerdict, TableVerdict};
 use crate::floor::{Refusal, MARK};
@@ -105,15 +106,20 @@ pub fn tried() -> Vec<Call> {
     calls.extend(refused_or_taken());
     calls.extend(claimed());
     calls.extend(logged());
+    aimed();
     calls
 }
 
-fn searched(call: &Call) -> (Answer, Rooms) {
-    let mut rooms = Rooms {
+fn rooms_of(call: &Call) -> Rooms {
+    Rooms {
         costs: vec![0; call.costs_room],
         work: vec![0; call.work_room],
         route: vec![0; call.byte_room],
-    };
+    }
+}
+
+fn searched(call: &Call) -> (Answer, Rooms) {
+    let mut rooms = rooms_of(call);
     let (start, goal, limit) = (call.start as u64, call.goal as u64, call.limit as u64);
     let answer = search(call.floor(), &call.map, start, goal, limit, &mut rooms);
     (answer, rooms)
@@ -163,4 +169,49 @@ fn logged() -> Vec<Call> {
     assert_eq!(write_entry(&entry, 48), Ok(bytes.clone()));
     assert_eq!(read_entry(&bytes, 4), Ok(Some(entry.clone())));
     vec![writing(&entry, 48), reading(&bytes, 4), reading(&[], 4)]
+}
+
+/// A question to A*: map, ways, start, goal, and what is due.
+type Aimed = (&'static str, u32, u32, u32, Answer, &'static [u8]);
+
+/// 01's cases that are not stopped, with R-4's settled counts worked out by hand: c settles the diagonal alone, d every cell by a tie, f neither the
+/// heavy cell nor the ends of the lower row. Then R-4's warning: on the last two floors a search that ends when the goal comes off its list, which
+/// prefers the lower cell or the one farther on among equal sums, misses cell 2, or 4, of the first route.
+#[rustfmt::skip]
+fn aimed_cases() -> Vec<Aimed> {
+    let none = |settled| Answer::None { settled };
+    let open = ".../.../...";
+    vec![
+        (".@./...", 8, 0, 2, found(5, 560, 4), &[4, 2, 2, 0]),
+        (open, 8, 0, 8, found(3, 396, 2), &[3, 3]),
+        (open, 4, 0, 8, found(9, 560, 4), &[4, 4, 2, 2]),
+        ("../.9", 8, 0, 3, found(4, 840, 2), &[4, 2]),
+        (".9./...", 8, 0, 2, found(3, 396, 2), &[3, 1]),
+        (".@.", 8, 0, 2, none(1), &[]),
+        (".", 8, 0, 0, found(1, 0, 0), &[]),
+        (".9", 8, 0, 1, found(2, 700, 1), &[2]),
+        (".9", 8, 1, 0, found(2, 700, 1), &[6]),
+        (".@/@.", 8, 0, 3, none(1), &[]),
+        ("../..", 4, 3, 0, found(4, 280, 2), &[6, 0]),
+        (".../...", 8, 3, 2, found(4, 338, 2), &[2, 1]),
+    ]
+}
+
+fn aimed() -> Vec<Call> {
+    let mut calls = Vec::new();
+    for (map, ways, start, goal, answer, route) in aimed_cases() {
+        let call = drawn(What::Astar, map, ways, start, goal, 0);
+        let mut rooms = rooms_of(&call);
+        let given = astar(
+            call.floor(),
+            &call.map,
+            start as u64,
+            goal as u64,
+            &mut rooms,
+        );
+        assert_eq!(given, answer, "A* on {}", map);
+        assert_eq!(&rooms.route[..route.len()], route, "A* on {}", map);
+        calls.push(call);
+    }
+    calls
 }

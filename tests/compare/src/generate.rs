@@ -98,8 +98,22 @@ fn some_cell(random: &mut Random, map: &[u8]) -> u32 {
 
 /// A search with rooms that suffice.
 pub fn good_search(random: &mut Random, scene: &Scene, limit: u32) -> Call {
-    let mut call = scene.call(What::Search);
+    let mut call = good_question(random, scene, What::Search);
     call.limit = limit;
+    call
+}
+
+/// A question to A* with rooms that suffice, about the scene's goal or another one.
+pub fn good_astar(random: &mut Random, scene: &Scene) -> Call {
+    let mut call = good_question(random, scene, What::Astar);
+    if !random.once_in(3) {
+        call.goal = some_cell(random, &call.map);
+    }
+    call
+}
+
+fn good_question(random: &mut Random, scene: &Scene, what: What) -> Call {
+    let mut call = scene.call(what);
     let cells = call.map.len();
     call.costs_room = cells + longer(random);
     call.work_room = 2 * cells + longer(random);
@@ -128,9 +142,9 @@ fn about(random: &mut Random, needed: usize) -> usize {
     }
 }
 
-/// A search whose rooms may be too short, and of which other things may be wrong.
-pub fn wild_search(random: &mut Random, scene: &Scene) -> Call {
-    let mut call = good_search(random, scene, 0);
+/// A search, or a question to A*, whose rooms may be too short, and of which other things may be wrong. A* must not look at the limit.
+pub fn wild_question(random: &mut Random, scene: &Scene, what: What) -> Call {
+    let mut call = good_question(random, scene, what);
     call.limit = random.one_of(&scene.limits());
     let cells = call.map.len();
     call.costs_room = about(random, cells);
@@ -140,14 +154,20 @@ pub fn wild_search(random: &mut Random, scene: &Scene) -> Call {
     call
 }
 
-/// A map with a side just too large, and of the right length for its sides.
-pub fn too_large(random: &mut Random) -> Call {
-    let mut call = Call::of(random.one_of(&[
+/// Any call but A* on a map with a side just too large.
+pub fn any_too_large(random: &mut Random) -> Call {
+    let what = random.one_of(&[
         What::Search,
         What::RouteClaim,
         What::TableClaim,
         What::WriteMap,
-    ]));
+    ]);
+    too_large(random, what)
+}
+
+/// A map with a side just too large, or just not, and of the right length for its sides.
+pub fn too_large(random: &mut Random, what: What) -> Call {
+    let mut call = Call::of(what);
     let (long, other) = (random.one_of(&[256, 257]), random.between(1, 256) as u32);
     let sides = random.one_of(&[(long, other), (other, long)]);
     call.width = sides.0;
@@ -155,7 +175,7 @@ pub fn too_large(random: &mut Random) -> Call {
     let cells = (call.width * call.height) as usize;
     call.map = vec![1; cells];
     match call.what {
-        What::Search => {
+        What::Search | What::Astar => {
             call.limit = random.one_of(&[0, 1, 300]);
             call.costs_room = cells;
             call.work_room = 2 * cells;

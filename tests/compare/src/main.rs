@@ -1,16 +1,18 @@
-//! Compares the proved programs with an independent planner, written from 01 and 02's alone, on random inputs.
+//! Compares the proved programs with an independent planner, written from 01 and 02's alone, on random inputs.
 //!
 //!     compare SEED COUNT FOLDER CALLS PLANNER [START..]
 //!
 //! COUNT rounds are run, each with its own random numbers. FOLDER is for `floor.map`; CALLS and PLANNER are the programs, and START the words
 //! before them that start a program on this machine. A difference is printed with its input, and the status is 1.
 //!
-//! `floor`, `search`, `claims`, `maptext`, `program` and `log` are the independent planner: to be read beside 01 and, sentence by
-//! sentence.
+//! `floor`, `search`, `claims`, `maptext`, `program`, `log` and `astar` are the independent planner: to be read beside 01 and, sentence
+//! by sentence.
 
+mod astar;
 mod calls;
 mod cases;
 mod claims;
+mod engines;
 mod floor;
 mod floors;
 mod generate;
@@ -55,6 +57,7 @@ pub struct Counts {
     /// files read entry by entry, and entries given to the writer
     log_files: u64,
     log_entries: u64,
+    astars: u64,
     /// how often each word or number was the answer
     met: BTreeMap<String, u64>,
 }
@@ -89,6 +92,8 @@ struct Comparison {
     counts: Counts,
     /// the searches of the round, as entries of the route log
     searched: Vec<Entry>,
+    /// random numbers of the round for A* alone: a seed's other calls are those of before R-4
+    aims: Random,
 }
 
 impl Comparison {
@@ -101,6 +106,7 @@ impl Comparison {
             // a file is counted, however many entries are read from it
             What::ReadEntry => (),
             What::WriteEntry => self.counts.log_entries += 1,
+            What::Astar => self.counts.astars += 1,
         }
         let expected = call.expected();
         self.counts.meet(report::outcome(call, &expected));
@@ -116,6 +122,34 @@ impl Comparison {
         let got = calls.ask(&small);
         report::print_difference(&small, &small.expected(), &got);
         Err(Differs)
+    }
+
+    /// A question to A*; then that the program answers it as it does the same question to the search.
+    fn compare_astar(&mut self, call: &Call) -> Result<(), Differs> {
+        self.compare(call)?;
+        let calls = &mut self.calls;
+        let mut differ = |other: &Call| {
+            let searched = calls.ask(&engines::as_search(other));
+            !engines::agree(other, &searched, &calls.ask(other))
+        };
+        if !differ(call) {
+            return Ok(());
+        }
+        let small = report::shrunk(call, &mut differ);
+        let searched = calls.ask(&engines::as_search(&small));
+        report::print_engines(&small, &searched, &calls.ask(&small));
+        Err(Differs)
+    }
+
+    /// Good questions to A* from the scene's start, so many, and as many that may be refused.
+    fn compare_astars(&mut self, scene: &Scene, times: u64) -> Result<(), Differs> {
+        for _ in 0..times {
+            let good = generate::good_astar(&mut self.aims, scene);
+            self.compare_astar(&good)?;
+            let wild = generate::wild_question(&mut self.aims, scene, What::Astar);
+            self.compare_astar(&wild)?;
+        }
+        Ok(())
     }
 
     fn round(&mut self, random: &mut Random, round: u64) -> Result<(), Differs> {
@@ -139,7 +173,7 @@ impl Comparison {
                 self.compare(&generate::good_search(random, &scene, limit))?;
             }
             for _ in 0..3 {
-                self.compare(&generate::wild_search(random, &scene))?;
+                self.compare(&generate::wild_question(random, &scene, What::Search))?;
             }
             for _ in 0..4 {
                 self.compare(&generate::route_claim(random, &scene))?;
@@ -161,8 +195,8 @@ impl Comparison {
         }
         let limit = random.below(scene.n + 1) as u32;
         self.compare(&generate::good_search(random, &scene, limit))?;
-        self.compare(&generate::wild_search(random, &scene))?;
-        self.compare(&generate::too_large(random))?;
+        self.compare(&generate::wild_question(random, &scene, What::Search))?;
+        self.compare(&generate::any_too_large(random))?;
         for _ in 0..2 {
             self.compare(&generate::route_claim(random, &scene))?;
             self.compare_table(random, &scene)?;
@@ -250,6 +284,7 @@ impl Comparison {
         }
         for round in 0..count {
             let mut random = Random::of_round(seed, round);
+            self.aims = Random::of_round(!seed, round);
             self.round(&mut random, round).map_err(|differs| {
                 println!("seed {}, round {}", seed, round);
                 differs
@@ -270,7 +305,7 @@ fn main() -> ExitCode {
         eprintln!("compare SEED COUNT FOLDER CALLS PLANNER [START..]");
         return ExitCode::FAILURE;
     }
-    let seed = words[0].parse().expect("SEED is a number");
+    let seed: u64 = words[0].parse().expect("SEED is a number");
     let count = words[1].parse().expect("COUNT is a number");
     let start = &words[5..];
     let mut comparison = Comparison {
@@ -282,6 +317,7 @@ fn main() -> ExitCode {
         },
         counts: Counts::default(),
         searched: Vec::new(),
+        aims: Random::of_round(!seed, 0),
     };
     let compared = comparison.all(seed, count);
     let met: Vec<String> = comparison

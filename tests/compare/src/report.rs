@@ -42,8 +42,10 @@ fn smaller_calls(call: &Call) -> Vec<Call> {
         }
     }
     calls.extend(shorter_routes(call));
-    if call.what == What::Search {
+    if call.what == What::Search || call.what == What::Astar {
         calls.extend(just_enough(call));
+    }
+    if call.what == What::Search {
         for limit in [call.limit / 2, call.limit.saturating_sub(1)] {
             if limit < call.limit {
                 let mut earlier = call.clone();
@@ -175,6 +177,22 @@ fn shorter_rooms(call: &Call) -> Vec<Call> {
 
 /// The input and both answers, to paste.
 pub fn print_difference(call: &Call, expected: &[u8], got: &[u8]) {
+    print_call(call);
+    println!("independent: {}", reply_words(call, expected));
+    println!("the program: {}", reply_words(call, got));
+}
+
+/// The input, which shows that two engines differ, and what the program answers for each.
+pub fn print_engines(call: &Call, searched: &[u8], aimed: &[u8]) {
+    print_call(call);
+    println!(
+        "the program's search with the limit at the cell count: {}",
+        reply_words(call, searched)
+    );
+    println!("the program's A*: {}", reply_words(call, aimed));
+}
+
+fn print_call(call: &Call) {
     println!("what: {:?}", call.what);
     print_input(call);
     if call.what == What::RouteClaim {
@@ -183,8 +201,6 @@ pub fn print_difference(call: &Call, expected: &[u8], got: &[u8]) {
     if call.what == What::TableClaim {
         println!("table: {}", runs(&call.table));
     }
-    println!("independent: {}", reply_words(call, expected));
-    println!("the program: {}", reply_words(call, got));
 }
 
 fn print_input(call: &Call) {
@@ -266,6 +282,7 @@ pub fn outcome(call: &Call, reply: &[u8]) -> String {
         What::WriteMap => ("writer", &["refused", "written"]),
         What::ReadEntry => ("log reader", &["refused", "entry", "empty"]),
         What::WriteEntry => ("log writer", &["refused", "written"]),
+        What::Astar => ("A*", &["refused", "found", "none"]),
     };
     match head[1] {
         0 => format!("{} {}", part, words[head[0] as usize]),
@@ -283,7 +300,7 @@ fn reply_words(call: &Call, reply: &[u8]) -> String {
     }
     let (six, rooms) = call.parts(reply);
     let named = match call.what {
-        What::Search => "kind, refusal, place, settled, number, length",
+        What::Search | What::Astar => "kind, refusal, place, settled, number, length",
         What::RouteClaim => "kind, refusal or fault, place, cost",
         What::TableClaim => "kind, refusal, place or cell",
         What::ReadMap => "kind, refusal, place, width, height, ways",

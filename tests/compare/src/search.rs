@@ -114,13 +114,12 @@ fn lowest_last_step(floor: Floor, map: &[u8], costs: &[Option<u64>], cell: u64) 
     panic!("a cell with a least cost has a last step");
 }
 
-/// Refusals 1 to 11; then, of limit 0, R-2: "Refuse it as 15, checked after 11."
-fn refused_search(
+/// Refusals 1 to 11 of a question and the rooms lent to it.
+pub fn refused_question(
     floor: Floor,
     map: &[u8],
     start: u64,
     goal: u64,
-    limit: u64,
     rooms: &Rooms,
 ) -> Option<Refusal> {
     if let Some(refused) = floor.refused_question(map, start, goal) {
@@ -134,6 +133,21 @@ fn refused_search(
     }
     if (rooms.route.len() as u64) < floor.cells() {
         return refusal(11, 0);
+    }
+    None
+}
+
+/// Refusals 1 to 11; then, of limit 0, R-2: "Refuse it as 15, checked after 11."
+fn refused_search(
+    floor: Floor,
+    map: &[u8],
+    start: u64,
+    goal: u64,
+    limit: u64,
+    rooms: &Rooms,
+) -> Option<Refusal> {
+    if let Some(refused) = refused_question(floor, map, start, goal, rooms) {
+        return Some(refused);
     }
     if limit == 0 {
         return refusal(15, 0);
