@@ -1,5 +1,5 @@
-"""A handful of calls, one of each form, with replies written out from the text of 01, R-2 and R-3 as plainly as can be: least costs by relaxing every step until
-nothing changes, the claims by their rules. Here it is that a call's parts are read in their order and that a reply has all of its own.
+"""A handful of calls, one of each form, with replies written out from the text of 01, R-2, R-3 and R-4 as plainly as can be: least costs by relaxing every step
+until nothing changes, the claims by their rules. Here it is that a call's parts are read in their order and that a reply has all of its own.
 """
 import wire
 
@@ -85,6 +85,28 @@ def search(made, floor, start, goal, limit, more):
 
     rooms = {"costs": (size + more, wire.OLD_COST), "work": (2 * size + more, wire.OLD_WORK), "route": (size + more, wire.OLD_BYTE)}
     made.call(wire.SEARCH, "plain", answer, shape(floor), start, goal, limit, map=(size, floor.cells), **rooms)
+
+
+def octile(floor, cell, goal):
+    small, large = sorted((abs(cell % floor.width - goal % floor.width), abs(cell // floor.width - goal // floor.width)))
+    return 140 * (small + large) if floor.ways == 4 else 198 * small + 140 * (large - small)
+
+
+def astar(made, floor, start, goal, more):
+    """The same for A*, which has no limit."""
+    size = len(floor.cells)
+    least = least_costs(floor, start)
+    settled = [cell for cell in least if goal not in least or least[cell] + octile(floor, cell, goal) <= least[goal]]
+
+    def answer(costs, work, route, **_):
+        steps = first_route(floor, least, start, goal) if goal in least else []
+        costs[:] = [least[cell] if cell in settled else MARK for cell in range(size)] + wire.OLD_COST * more
+        work[:] = [0] * (2 * size) + wire.OLD_WORK * more
+        route[:] = steps + wire.OLD_BYTE * (size + more - len(steps))
+        return [1, 0, 0, len(settled), least[goal], len(steps)] if goal in least else [2, 0, 0, len(settled), MARK, 0]
+
+    rooms = {"costs": (size + more, wire.OLD_COST), "work": (2 * size + more, wire.OLD_WORK), "route": (size + more, wire.OLD_BYTE)}
+    made.call(wire.ASTAR, "plain", answer, shape(floor), start, goal, map=(size, floor.cells), **rooms)
 
 
 def refused_search(made, floor, limit, lengths, number, place):

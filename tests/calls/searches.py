@@ -455,13 +455,18 @@ def given(cells):
     return cells[:1] if len(set(cells)) == 1 else cells
 
 
+def ask(made, what, turn, case, answer):
+    """A question from C in the case's rooms, of which every fifth call has other contents before; `answer` gives what is due."""
+    about = ", ".join("%s %d" % (name, value) for name, value in case.items() if name != "cells") + ", cells %r" % case["cells"][:100]
+    old = (wire.OLD_COST, wire.OLD_WORK, wire.OLD_BYTE) if turn % 5 else ([turn, MARK, 0], [MARK, turn], [turn % 256, 9, 255])
+    rooms = {name: (case[name], before) for name, before in zip(("costs", "work", "route"), old)}
+    asked = {"floor": (case["width"], case["height"], case["ways"]), "start": case["start"], "goal": case["goal"], "limit": case["limit"], **rooms}
+    size = len(case["cells"])
+    due = lambda costs, work, route, **_: answer(case, costs, work, route)
+    made.call(what, about, due, map=(size, given(case["cells"])), **asked)
+
+
 def add_calls(made):
     """Each question is asked of the call from C, which hands it to the search and gives the numbers of its answer."""
     for turn, case in enumerate(all_cases()):
-        about = ", ".join("%s %d" % (name, value) for name, value in case.items() if name != "cells") + ", cells %r" % case["cells"][:100]
-        old = (wire.OLD_COST, wire.OLD_WORK, wire.OLD_BYTE) if turn % 5 else ([turn, MARK, 0], [MARK, turn], [turn % 256, 9, 255])
-        rooms = {name: (case[name], before) for name, before in zip(("costs", "work", "route"), old)}
-        asked = {"floor": (case["width"], case["height"], case["ways"]), "start": case["start"], "goal": case["goal"], "limit": case["limit"], **rooms}
-        size = len(case["cells"])
-        due = lambda costs, work, route, **_: answer(case, costs, work, route)
-        made.call(wire.SEARCH, about, due, map=(size, given(case["cells"])), **asked)
+        ask(made, wire.SEARCH, turn, case, answer)

@@ -8,20 +8,20 @@ from collections import Counter
 
 (
     SEARCH, CHECK_ROUTE, CHECK_TABLE, READ_MAP, WRITE_MAP, JUDGE_MAP, C_CHECK_ROUTE, USE_MAP, ANSWER_RECORDS, ANSWER_ARRIVED, KEEP_TAIL,
-    READ_ENTRY, WRITE_ENTRY,
-) = range(1, 14)
+    READ_ENTRY, WRITE_ENTRY, ASTAR,
+) = range(1, 15)
 ENTRIES = {
     SEARCH: "fradnumber_search", CHECK_ROUTE: "check_route", CHECK_TABLE: "fradnumber_check_table", READ_MAP: "fradnumber_read_map",
     WRITE_MAP: "fradnumber_write_map", JUDGE_MAP: "fradnumber_judge_map", C_CHECK_ROUTE: "fradnumber_check_route", USE_MAP: "use_map",
     ANSWER_RECORDS: "answer_records", ANSWER_ARRIVED: "answer_arrived", KEEP_TAIL: "keep_tail",
-    READ_ENTRY: "fradnumber_read_entry", WRITE_ENTRY: "fradnumber_write_entry",
+    READ_ENTRY: "fradnumber_read_entry", WRITE_ENTRY: "fradnumber_write_entry", ASTAR: "fradnumber_astar",
 }
 READING, WRITING, SEARCHING = ("refused", "read"), ("refused", "written"), ("refused", "found", "none", "stopped")
 # What the first number of a reply says, where it is a kind; the second is then the refusal or the fault.
 WORDS = {
     SEARCH: SEARCHING, READ_MAP: READING, JUDGE_MAP: READING, USE_MAP: READING,
     CHECK_ROUTE: ("refused", "holds", "fault"), CHECK_TABLE: ("refused", "right", "breaks"), WRITE_MAP: WRITING,
-    READ_ENTRY: ("refused", "an entry", "empty"), WRITE_ENTRY: WRITING,
+    READ_ENTRY: ("refused", "an entry", "empty"), WRITE_ENTRY: WRITING, ASTAR: SEARCHING,
 }
 WHOLE, DIGEST = 0, 1
 ROOMS = ("map", "costs", "work", "route", "text")
