@@ -1,8 +1,17 @@
-//! Both planners must give the same answer and leave the same in every room.
+//! Both planners must give the same answer and leave the same in every room; so must both A*, and then settle the same cells.
 
-use crate::floors::{Kind, Random, KINDS};
-use crate::question::{Answer, Question, Rooms};
-use crate::{ordinary, ours, SIDES};
+use crate::floors::{Goal, Kind, Random, ASTAR_KINDS, GOALS, KINDS};
+use crate::question::{Answer, Planner, Question, Rooms};
+use crate::{ordinary, ordinary_astar, ours, SIDES};
+
+/// Two that must answer alike.
+struct Pair {
+    ours: Planner,
+    ordinary: Planner,
+}
+
+const SEARCH: Pair = Pair { ours: ours::search, ordinary: ordinary::search };
+const ASTAR: Pair = Pair { ours: ours::astar, ordinary: ordinary_astar::astar };
 
 /// What rooms hold before a compared call: nothing that a planner would write, so that what is left untouched shows.
 const OLD_NUMBER: u32 = 123_456_789;
@@ -22,27 +31,68 @@ pub fn compare_all() -> Result<usize, String> {
             count += compare_floor(kind, side)?;
         }
     }
-    for case in refused() {
-        let answer = compare(&case.question, &case.rooms)?;
+    count += compare_refused(&SEARCH, &refused())?;
+    Ok(count + compare_random(&SEARCH, 1)?)
+}
+
+/// The same for A*, which takes no limit and is not refused as 15.
+pub fn compare_astar() -> Result<usize, String> {
+    let mut count = 0;
+    for kind in ASTAR_KINDS {
+        for side in SIDES {
+            for goal in GOALS {
+                count += compare_aimed(kind, side, goal)?;
+            }
+        }
+    }
+    let mut cases = refused();
+    cases.retain(|case| case.refusal != 15);
+    count += compare_refused(&ASTAR, &cases)?;
+    Ok(count + compare_random(&ASTAR, 2)?)
+}
+
+fn compare_refused(pair: &Pair, cases: &[Refused]) -> Result<usize, String> {
+    for case in cases {
+        let answer = compare(pair, &case.question, &case.rooms)?;
         if (answer.kind, answer.refusal, answer.place) != (0, case.refusal, case.place) {
             return Err(format!("refusal {} at {} expected, not {:?}", case.refusal, case.place, answer));
         }
-        count += 1;
     }
-    let mut random = Random(1);
-    for _ in 0..20_000 {
+    Ok(cases.len())
+}
+
+fn compare_random(pair: &Pair, seed: u64) -> Result<usize, String> {
+    const COUNT: usize = 20_000;
+    let mut random = Random(seed);
+    for _ in 0..COUNT {
         let (question, rooms) = random_question(&mut random);
-        compare(&question, &rooms)?;
-        count += 1;
+        compare(pair, &question, &rooms)?;
     }
-    Ok(count)
+    Ok(COUNT)
+}
+
+/// The timed question to A*, the way back and four ways; and that A* finds what the search finds.
+fn compare_aimed(kind: Kind, side: usize, goal: Goal) -> Result<usize, String> {
+    let question = kind.question_to(side, goal);
+    let rooms = roomy(side * side);
+    let back = Question { start: question.goal, goal: question.start, ..question.clone() };
+    let four = Question { ways: 4, ..question.clone() };
+    let variants = [question, back, four];
+    for variant in &variants {
+        let aimed = compare(&ASTAR, variant, &rooms)?;
+        let searched = compare(&SEARCH, variant, &rooms)?;
+        if (aimed.kind, aimed.number, aimed.length) != (1, searched.number, searched.length) {
+            return Err(format!("{aimed:?}, but the search finds {searched:?}, of {}", in_words(variant)));
+        }
+    }
+    Ok(variants.len())
 }
 
 /// The timed question of a floor, the way back, four ways, and limits about the goal's place and below it, down to 0.
 fn compare_floor(kind: Kind, side: usize) -> Result<usize, String> {
     let question = kind.question(side);
     let rooms = roomy(side * side);
-    let answer = compare(&question, &rooms)?;
+    let answer = compare(&SEARCH, &question, &rooms)?;
     if answer.kind != 1 {
         return Err(format!("{} {side}: a route is expected, not {answer:?}", kind.name()));
     }
@@ -54,17 +104,17 @@ fn compare_floor(kind: Kind, side: usize) -> Result<usize, String> {
         variants.push(Question { limit, ..question.clone() });
     }
     for variant in &variants {
-        compare(variant, &rooms)?;
+        compare(&SEARCH, variant, &rooms)?;
     }
     Ok(1 + variants.len())
 }
 
 /// Asks both and compares; gives the answer.
-fn compare(question: &Question, rooms: &Rooms) -> Result<Answer, String> {
+fn compare(pair: &Pair, question: &Question, rooms: &Rooms) -> Result<Answer, String> {
     let mut our_rooms = rooms.clone();
     let mut their_rooms = rooms.clone();
-    let our_answer = ours::search(question, &mut our_rooms);
-    let their_answer = ordinary::search(question, &mut their_rooms);
+    let our_answer = (pair.ours)(question, &mut our_rooms);
+    let their_answer = (pair.ordinary)(question, &mut their_rooms);
     let what = if our_answer != their_answer {
         "answers"
     } else if our_rooms.costs != their_rooms.costs {

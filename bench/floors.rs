@@ -22,9 +22,34 @@ pub enum Kind {
     Maze,
     MazeToCorner,
     Weights,
+    Rooms,
 }
 
 pub const KINDS: [Kind; 5] = [Kind::Empty, Kind::ThirdBlocked, Kind::Maze, Kind::MazeToCorner, Kind::Weights];
+
+/// The floors of A*'s table.
+pub const ASTAR_KINDS: [Kind; 5] = [Kind::Empty, Kind::ThirdBlocked, Kind::Maze, Kind::Weights, Kind::Rooms];
+
+/// Which goal A* is asked for.
+#[derive(Clone, Copy, PartialEq, Eq)]
+pub enum Goal {
+    Near,
+    Far,
+}
+
+pub const GOALS: [Goal; 2] = [Goal::Near, Goal::Far];
+
+/// How far the near goal is from the start, in columns and rows.
+const NEAR: (usize, usize) = (30, 15);
+
+impl Goal {
+    pub fn name(self) -> &'static str {
+        match self {
+            Goal::Near => "near",
+            Goal::Far => "far",
+        }
+    }
+}
 
 impl Kind {
     pub fn name(self) -> &'static str {
@@ -34,6 +59,7 @@ impl Kind {
             Kind::Maze => "maze",
             Kind::MazeToCorner => "maze, to the corner",
             Kind::Weights => "weights 1 to 9",
+            Kind::Rooms => "rooms",
         }
     }
 
@@ -44,6 +70,7 @@ impl Kind {
             Kind::ThirdBlocked => (0..side * side).map(|_| u8::from(random.below(3) != 0)).collect(),
             Kind::Maze | Kind::MazeToCorner => maze(side, &mut random),
             Kind::Weights => (0..side * side).map(|_| 1 + random.below(9) as u8).collect(),
+            Kind::Rooms => rooms(side, &mut random),
         }
     }
 
@@ -69,6 +96,37 @@ impl Kind {
             map,
         }
     }
+
+    /// The question to A*. The far goal is that of the search's question. The near one is 30 columns east and 15 rows south of the
+    /// start, or the cell of the same part that is nearest to there by straight steps over an empty floor.
+    pub fn question_to(self, side: usize, goal: Goal) -> Question {
+        let question = self.question(side);
+        if goal == Goal::Far {
+            return question;
+        }
+        let start = question.start as usize;
+        let (x, y) = (start % side + NEAR.0, start / side + NEAR.1);
+        let off = |cell: &usize| ((cell % side).abs_diff(x) + (cell / side).abs_diff(y), *cell);
+        let part = largest_part(side, &question.map);
+        let near = part.into_iter().min_by_key(off).expect("an open cell");
+        Question { goal: near as u32, ..question }
+    }
+}
+
+/// Rooms of 31 x 31 cells with walls one cell thick between them, and in the wall between any two rooms a door one cell wide.
+fn rooms(side: usize, random: &mut Random) -> Vec<u8> {
+    const ROOM: usize = 31;
+    const PITCH: usize = ROOM + 1;
+    let is_inside = |place: usize| place % PITCH != ROOM;
+    let mut map: Vec<u8> = (0..side * side).map(|cell| u8::from(is_inside(cell % side) && is_inside(cell / side))).collect();
+    for wall in (ROOM..side - 1).step_by(PITCH) {
+        for room in (0..side).step_by(PITCH) {
+            let mut door = || room + random.below(ROOM as u32) as usize;
+            map[door() * side + wall] = 1;
+            map[wall * side + door()] = 1;
+        }
+    }
+    map
 }
 
 /// A maze with one way between any two cells, carved depth first: rooms are at even columns and rows, walls between them.

@@ -1,17 +1,18 @@
-//! Compares the proved search with an ordinary planner, then times both: bench/README.md.
+//! Compares the proved search with an ordinary planner, and the proved A* with an ordinary one, then times all: bench/README.md.
 //!
-//!     bench            compares, then prints the table of times
+//!     bench            compares, then prints the tables of times
 //!     bench --check    compares
 
 mod clock;
 mod compare;
 mod floors;
 mod ordinary;
+mod ordinary_astar;
 mod ours;
 mod question;
 
 use floors::{Kind, KINDS};
-use question::{Answer, Question, Rooms};
+use question::{Answer, Planner, Question, Rooms};
 use std::process::ExitCode;
 use std::time::Duration;
 
@@ -25,12 +26,15 @@ const WARM_UPS: usize = 3;
 
 fn main() -> ExitCode {
     let check_only = std::env::args().skip(1).any(|word| word == "--check");
-    match compare::compare_all() {
-        Err(difference) => {
-            eprintln!("bench: {difference}");
-            return ExitCode::FAILURE;
+    let comparisons: [(&str, fn() -> Result<usize, String>); 1] = [("", compare::compare_all)];
+    for (which, compare) in comparisons {
+        match compare() {
+            Err(difference) => {
+                eprintln!("bench: {which}{difference}");
+                return ExitCode::FAILURE;
+            }
+            Ok(count) => println!("{which}answers, costs, work rooms and routes are the same on {count} questions"),
         }
-        Ok(count) => println!("answers, costs, work rooms and routes are the same on {count} questions"),
     }
     if !check_only {
         print_times();
@@ -90,10 +94,10 @@ fn time_floor(kind: Kind, side: usize) -> Timed {
 
 /// Not inlined: both planners are called through a pointer, in the same way.
 #[inline(never)]
-fn time_call(search: fn(&Question, &mut Rooms) -> Answer, question: &Question, rooms: &mut Rooms) -> (Duration, Answer) {
+fn time_call(planner: Planner, question: &Question, rooms: &mut Rooms) -> (Duration, Answer) {
     rooms.fill(0, 0);
     let begun = clock::now();
-    let answer = search(question, rooms);
+    let answer = planner(question, rooms);
     (clock::now() - begun, answer)
 }
 
@@ -103,7 +107,7 @@ fn aim(kind: Kind, side: usize) -> Option<f64> {
         _ if side != 256 => None,
         Kind::Empty | Kind::ThirdBlocked => Some(0.8),
         Kind::Maze | Kind::MazeToCorner => Some(1.3),
-        Kind::Weights => None,
+        Kind::Weights | Kind::Rooms => None,
     }
 }
 

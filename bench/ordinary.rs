@@ -6,22 +6,22 @@ use std::cmp::Reverse;
 use std::collections::BinaryHeap;
 
 /// dx, dy and unit of the directions N, NE, E, SE, S, SW, W, NW.
-const DIRECTIONS: [(i32, i32, u32); 8] =
+pub const DIRECTIONS: [(i32, i32, u32); 8] =
     [(0, -1, 70), (1, -1, 99), (1, 0, 70), (1, 1, 99), (0, 1, 70), (-1, 1, 99), (-1, 0, 70), (-1, -1, 99)];
 
 /// Open cells, the least first. A cell that got cheaper is in it more than once.
-type Open = BinaryHeap<Reverse<u64>>;
+pub type Open = BinaryHeap<Reverse<u64>>;
 
 /// A cost and a cell as one number, which sorts by cost and then by cell: quicker to compare than a pair.
-fn key(cost: u32, cell: usize) -> Reverse<u64> {
+pub fn key(cost: u32, cell: usize) -> Reverse<u64> {
     Reverse(u64::from(cost) << 32 | cell as u64)
 }
 
-fn cost_and_cell(Reverse(key): Reverse<u64>) -> (u32, usize) {
+pub fn cost_and_cell(Reverse(key): Reverse<u64>) -> (u32, usize) {
     ((key >> 32) as u32, key as u32 as usize)
 }
 
-struct Floor<'a> {
+pub struct Floor<'a> {
     width: i32,
     height: i32,
     /// 1 with eight ways; 2 with four, which leaves out the odd directions.
@@ -30,16 +30,16 @@ struct Floor<'a> {
 }
 
 impl Floor<'_> {
-    fn of(question: &Question) -> Floor<'_> {
+    pub fn of(question: &Question) -> Floor<'_> {
         let stride = if question.ways == 8 { 1 } else { 2 };
         Floor { width: question.width as i32, height: question.height as i32, stride, map: &question.map }
     }
 
-    fn directions(&self) -> impl Iterator<Item = usize> {
+    pub fn directions(&self) -> impl Iterator<Item = usize> {
         (0..8).step_by(self.stride)
     }
 
-    fn place_of(&self, cell: usize) -> (i32, i32) {
+    pub fn place_of(&self, cell: usize) -> (i32, i32) {
         (cell as i32 % self.width, cell as i32 / self.width)
     }
 
@@ -55,13 +55,14 @@ impl Floor<'_> {
         self.map[self.cell_at(x, y)] != 0
     }
 
-    fn weight(&self, cell: usize) -> u32 {
+    pub fn weight(&self, cell: usize) -> u32 {
         u32::from(self.map[cell])
     }
 
     /// The cell that a step from an open cell enters and what it costs, where the step is allowed. `left` is the weight of
-    /// the cell that it leaves.
-    fn step(&self, x: i32, y: i32, left: u32, direction: usize) -> Option<(usize, u32)> {
+    /// the cell that it leaves. Always inlined, as it was before A* called it too: the search is not to be slower for that.
+    #[inline(always)]
+    pub fn step(&self, x: i32, y: i32, left: u32, direction: usize) -> Option<(usize, u32)> {
         let (dx, dy, unit) = DIRECTIONS[direction];
         let (u, v) = (x + dx, y + dy);
         if !self.has(u, v) || !self.is_open(u, v) {
@@ -88,6 +89,12 @@ pub fn search(question: &Question, rooms: &mut Rooms) -> Answer {
 
 /// The refusals 1 to 11 and 15: the lowest that applies.
 fn refusal(question: &Question, rooms: &Rooms) -> Option<Answer> {
+    let no_limit = || if question.limit == 0 { Some(Answer::refused(15, 0)) } else { None };
+    refused_before_15(question, rooms).or_else(no_limit)
+}
+
+/// The refusals 1 to 11: the lowest that applies.
+pub fn refused_before_15(question: &Question, rooms: &Rooms) -> Option<Answer> {
     let is_side = |n: u32| (1..=256).contains(&n);
     if !is_side(question.width) || !is_side(question.height) {
         return Some(Answer::refused(1, 0));
@@ -116,8 +123,6 @@ fn refusal(question: &Question, rooms: &Rooms) -> Option<Answer> {
         10
     } else if rooms.route.len() < cells {
         11
-    } else if question.limit == 0 {
-        15
     } else {
         return None;
     };
@@ -172,7 +177,7 @@ fn forget_seen(open: Open, costs: &mut [u32]) {
 }
 
 /// Writes the first least-cost route and gives its length: back from the goal, at each cell by the lowest direction.
-fn write_route(floor: &Floor, costs: &[u32], start: usize, goal: usize, route: &mut [u8]) -> usize {
+pub fn write_route(floor: &Floor, costs: &[u32], start: usize, goal: usize, route: &mut [u8]) -> usize {
     let mut length = 0;
     let mut cell = goal;
     while cell != start {

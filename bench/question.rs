@@ -12,9 +12,12 @@ pub struct Question {
     pub map: Vec<u8>,
     pub start: u32,
     pub goal: u32,
-    /// How many cells may be settled; 0 is refused.
+    /// How many cells may be settled; 0 is refused. A* does not look at it.
     pub limit: u32,
 }
+
+/// How the bench calls a search or an A*, ours or the ordinary one.
+pub type Planner = fn(&Question, &mut Rooms) -> Answer;
 
 /// The answer of include/fradnumber.h.
 #[repr(C)]
