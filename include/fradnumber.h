@@ -139,6 +139,26 @@ struct fradnumber_answer fradnumber_search(uint32_t width, uint32_t height, uint
                                            uint32_t *work, size_t work_length,
                                            uint8_t *route, size_t route_length);
 
+/*
+ * Searches a least-cost route by A*, for a single question: kind, number and route are those of fradnumber_search with the
+ * limit at width * height, and mostly far fewer cells are settled. There is no limit, and no answer is FRADNUMBER_STOPPED.
+ *
+ * The settled cells are exactly the reachable ones whose least cost plus estimate is at most the goal's least cost, or all
+ * reachable cells if the goal is none of them. The estimate is 198 times the smaller of the two coordinate distances to the
+ * goal plus 140 times what the larger one has more; with four ways it is 140 times their sum. The refusals are 1 to 11, and
+ * the lowest that applies is given.
+ *
+ * The rooms are as long as for fradnumber_search and are left as it leaves them: the costs of the settled cells,
+ * FRADNUMBER_MARK for all others, zeros in work, the first least-cost route if there is one, and everything further along
+ * as it was.
+ */
+struct fradnumber_answer fradnumber_astar(uint32_t width, uint32_t height, uint32_t ways,
+                                          const uint8_t *map, size_t map_length,
+                                          uint32_t start, uint32_t goal,
+                                          uint32_t *costs, size_t costs_length,
+                                          uint32_t *work, size_t work_length,
+                                          uint8_t *route, size_t route_length);
+
 struct fradnumber_read {
     uint64_t refusal; /* enum fradnumber_number, 0 if the text is a map */
     uint64_t place;   /* of the refusal */
