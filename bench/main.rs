@@ -3,6 +3,7 @@
 //!     bench            compares, then prints the tables of times
 //!     bench --check    compares
 
+mod astar_times;
 mod clock;
 mod compare;
 mod floors;
@@ -26,7 +27,7 @@ const WARM_UPS: usize = 3;
 
 fn main() -> ExitCode {
     let check_only = std::env::args().skip(1).any(|word| word == "--check");
-    let comparisons: [(&str, fn() -> Result<usize, String>); 1] = [("", compare::compare_all)];
+    let comparisons: [(&str, fn() -> Result<usize, String>); 2] = [("", compare::compare_all), ("A*: ", compare::compare_astar)];
     for (which, compare) in comparisons {
         match compare() {
             Err(difference) => {
@@ -38,6 +39,7 @@ fn main() -> ExitCode {
     }
     if !check_only {
         print_times();
+        astar_times::print();
     }
     ExitCode::SUCCESS
 }

@@ -84,8 +84,8 @@ def unlimited(cases):
     return questions
 
 
-# Map, ways, start, goal, and how many cells are settled, worked out by hand: the cases of 01, c with every cell of its row and column too dear, d with every
-# cell on some first-rate route, f with the heavy cell and both outer cells of the lower row too dear.
+# Map, ways, start, goal, and how many cells are settled, worked out by hand, of the cases of 01: in c every cell off the diagonal is too dear, in d every
+# cell lies on some least-cost route, in f the heavy cell and both ends of the lower row are too dear.
 BY_HAND = [
     (".@./...", 8, 0, 2, 5),
     (".../.../...", 8, 0, 8, 3),

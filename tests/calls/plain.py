@@ -207,3 +207,6 @@ def add_calls(made):
     refused_reading(made, b"type octile\r\n", 21, 0)
     writing(made, a, 4)
     search(made, a, 0, 2, 5, 0)
+    astar(made, a, 0, 2, 0)
+    astar(made, d, 0, 8, 1)
+    astar(made, l, 0, 3, 2)

@@ -106,7 +106,7 @@ pub fn tried() -> Vec<Call> {
     calls.extend(refused_or_taken());
     calls.extend(claimed());
     calls.extend(logged());
-    aimed();
+    calls.extend(aimed());
     calls
 }
 

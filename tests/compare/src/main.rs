@@ -57,6 +57,7 @@ pub struct Counts {
     /// files read entry by entry, and entries given to the writer
     log_files: u64,
     log_entries: u64,
+    /// questions to A*
     astars: u64,
     /// how often each word or number was the answer
     met: BTreeMap<String, u64>,
@@ -77,8 +78,8 @@ impl fmt::Display for Counts {
         )?;
         write!(
             out,
-            "{} log files, {} log entries",
-            self.log_files, self.log_entries
+            "{} log files, {} log entries, {} questions to A*",
+            self.log_files, self.log_entries, self.astars
         )
     }
 }
@@ -175,6 +176,7 @@ impl Comparison {
             for _ in 0..3 {
                 self.compare(&generate::wild_question(random, &scene, What::Search))?;
             }
+            self.compare_astars(&scene, 2)?;
             for _ in 0..4 {
                 self.compare(&generate::route_claim(random, &scene))?;
                 self.compare_table(random, &scene)?;
@@ -197,6 +199,9 @@ impl Comparison {
         self.compare(&generate::good_search(random, &scene, limit))?;
         self.compare(&generate::wild_question(random, &scene, What::Search))?;
         self.compare(&generate::any_too_large(random))?;
+        self.compare_astars(&scene, 1)?;
+        let too_large = generate::too_large(&mut self.aims, What::Astar);
+        self.compare_astar(&too_large)?;
         for _ in 0..2 {
             self.compare(&generate::route_claim(random, &scene))?;
             self.compare_table(random, &scene)?;
