@@ -1,5 +1,4 @@
 -- What is asked of the cells that are listed in a room, from place `from` on, `len` of them.
-use mathlib.Core.Path.{_≡_}
 use mathlib.Core.List.{List}
 use Prim.Native.Nat.{ℕ, suc, _+_, _≤_, _<_}
 use lib.Dec.{ltb}

@@ -1,7 +1,7 @@
 -- L is no longer than the cell count: with that limit the plain search finds a goal that is reachable and else answers none, and so does one with an estimate.
-use mathlib.Core.Path.{_≡_, sym, _∙_, ap}
-use mathlib.Core.Logic.{_↔_}
-use mathlib.Core.List.{List}
+use mathlib.Core.Path.{_≡_, refl, sym, _∙_, ap}
+use mathlib.Core.Logic.{_↔_, _≢_}
+use mathlib.Core.List.{List, []}
 use Prim.Native.Nat.{ℕ, _+_, _≤_, _<_}
 use native.Mathlib.Omega.{arith}
 use native.Mathlib.Decide.{ℕ-discrete}
@@ -14,12 +14,12 @@ use Rattle.paths.specs.First.{First}
 use Rattle.settling.specs.Order.{known, L, place}
 use Rattle.settling.specs.Answer.{Kind, Row, answerOf}
 use Rattle.settling.specs.Aimed.{isSettled, settledCount, settledCosts, aimedOf}
-use Rattle.paths.proofs.Bools.{T-true, not-T-false}
+use Rattle.paths.proofs.Bools.{T-true, not-T-false, by-cond}
 use Rattle.paths.proofs.Below.{count-le, length-values, getD-values}
 use Rattle.paths.proofs.Meaning.{reachable-known, value-is-least}
 use Rattle.settling.proofs.Orders.{known-is, is-known, length-sorted, place-in}
 use Rattle.settling.proofs.Lists.{L-members}
-use Rattle.settling.proofs.Outcomes.{found-is, none-is, found-exactly, none-exactly, found-first, found-cost}
+use Rattle.settling.proofs.Outcomes.{code, found-is, none-is, found-exactly, none-exactly, found-first, found-cost}
 use Rattle.settling.proofs.Aims.{settled-is, is-settled}
 
 -- the costs left: a settled cell has its value, any other MARK
@@ -35,6 +35,20 @@ module _ (h : ℕ → ℕ) (t : List ℕ) (goal : ℕ) where
   pub left-unsettled : (v : ℕ) → v < length t → (T (isSettled h t goal v) → ⊥) → getD (settledCosts h t goal) v 0 ≡ MARK
   unfolding settledCosts
   left-unsettled v i k = getD-values _ (length t) v i ∙ rw (not-T-false (isSettled h t goal v) k)
+
+-- the row is found or none, has their number, and no route for none
+module _ (g : Graph) (s : ℕ) (t : List ℕ) (h : ℕ → ℕ) (goal : ℕ) where
+  pub aimed-count : aimedOf g s t h goal .settled ≡ settledCount h t goal
+  unfolding aimedOf
+  aimed-count = by-cond (λ (w : Row). w .settled ≡ settledCount h t goal) (known t goal) _ _ (λ k. refl) (λ k. refl)
+
+  pub aimed-never : aimedOf g s t h goal .kind ≢ Kind.stopped
+  unfolding aimedOf
+  aimed-never = by-cond (λ (w : Row). w .kind ≢ Kind.stopped) (known t goal) _ _ (λ k e. omega (arith, ap code e)) (λ k e. omega (arith, ap code e))
+
+  pub aimed-empty : aimedOf g s t h goal .kind ≡ Kind.none → aimedOf g s t h goal .route ≡ []
+  unfolding aimedOf
+  aimed-empty = by-cond (λ (w : Row). w .kind ≡ Kind.none → w .route ≡ []) (known t goal) _ _ (λ k e. absurd (omega (arith, ap code e))) (λ k e. refl)
 
 module _ {g : Graph} {least most : ℕ} (law : Lawful g least most) (s : ℕ) (start : s < g .cells) (t : List ℕ) (right : Right g s t)
     (goal : ℕ) (inside : goal < g .cells) (h : ℕ → ℕ) where

@@ -13,3 +13,4 @@ pub mod Outcomes
 pub mod Spreads
 pub mod Aims
 pub mod AimedPlain
+pub mod Keeping

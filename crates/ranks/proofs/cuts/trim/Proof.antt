@@ -4,12 +4,13 @@ use mathlib.Core.List.{List}
 use Prim.Native.Nat.{ℕ, _-_, _≤_, _<_}
 use native.Mathlib.Omega.{arith}
 use lib.ListN.{length, getD}
-use Rattle.ranks.proofs.Keys.{cutTo, cut-none, cut-all, length-cut, cut-at, cut-next}
+use Rattle.settling.proofs.Keeping.{keptTo, kept-none, kept-all, length-kept, kept-at, kept-next}
+use Rattle.ranks.proofs.Keys.{left, cut-values, kept-left}
 use Rattle.ranks.proofs.cuts.trim.Statement.{statement}
 use Rattle.ranks.proofs.cuts.trim.Tie as tie
 
 abbrev Inv-loop : tie.InvT-loop
-Inv-loop costs₀ key cell₀ costs cell = (cell ≤ length costs₀) × (costs ≡ cutTo costs₀ key cell)
+Inv-loop costs₀ key cell₀ costs cell = (cell ≤ length costs₀) × (costs ≡ keptTo (left costs₀ key) costs₀ cell)
 
 abbrev μ-loop : tie.MeasureT-loop
 μ-loop costs₀ key cell₀ costs cell = length costs₀ - cell
@@ -17,10 +18,10 @@ abbrev μ-loop : tie.MeasureT-loop
 covers : (c : tie.At-loop Inv-loop μ-loop) → length (c .loop .costs) ≡ length (c .before .before .args .costs .now)
 covers c =
     let s = c .before .before in
-    ap length (c .loop .inv .1) ∙ length-cut (s .args .costs .now) (s .args .key) (c .loop .cell) (c .loop .inv .0)
+    ap length (c .loop .inv .1) ∙ length-kept (left (s .args .costs .now) (s .args .key)) (s .args .costs .now) (c .loop .cell) (c .loop .inv .0)
 
 loop-holds : tie.Need-loop-holds Inv-loop μ-loop
-loop-holds c = (omega arith, sym (cut-none (c .before .args .costs .now) (c .before .args .key)))
+loop-holds c = let s = c .before in (omega arith, sym (kept-none (left (s .args .costs .now) (s .args .key)) (s .args .costs .now)))
 
 mul-cost : tie.Need-mul-cost Inv-loop μ-loop
 mul-cost c = omega (arith, covers (c .before), c .before .before .before .pre)
@@ -48,10 +49,11 @@ loop-again c =
     let at = c .before .before .before in
     let s = at .before .before in
     let costs = s .args .costs .now in
+    let keeps = left costs (s .args .key) in
     let i = at .loop .cell in
     let h : i < length costs = omega (arith, covers at) in
-    let e : getD (at .loop .costs) i 0 ≡ getD costs i 0 = ap (λ (l : List ℕ). getD l i 0) (at .loop .inv .1) ∙ cut-at costs (s .args .key) i h in
-    (omega arith, rw (at .loop .inv .1, c .kept-cost .ensures, e) (cut-next costs (s .args .key) i h))
+    let e : getD (at .loop .costs) i 0 ≡ getD costs i 0 = ap (λ (l : List ℕ). getD l i 0) (at .loop .inv .1) ∙ kept-at keeps costs i h in
+    (omega arith, rw (at .loop .inv .1, c .kept-cost .ensures, e, kept-left costs (s .args .key) i) (kept-next keeps costs i h))
 
 same-length : tie.Need-same-length Inv-loop μ-loop
 same-length c = covers (c .before)
@@ -60,8 +62,10 @@ returns : tie.Need-returns Inv-loop μ-loop
 returns c =
     let at = c .before in
     let s = at .before .before in
-    let end : at .loop .cell ≡ length (s .args .costs .now) = omega (arith, covers at) in
-    at .loop .inv .1 ∙ ap (cutTo (s .args .costs .now) (s .args .key)) end ∙ cut-all (s .args .costs .now) (s .args .key)
+    let costs = s .args .costs .now in
+    let keeps = left costs (s .args .key) in
+    let end : at .loop .cell ≡ length costs = omega (arith, covers at) in
+    at .loop .inv .1 ∙ ap (keptTo keeps costs) end ∙ kept-all keeps costs ∙ sym (cut-values costs (s .args .key))
 
 pub trim-spec : {M : Type 1} → statement M
 trim-spec =
