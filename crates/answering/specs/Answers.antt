@@ -1,6 +1,4 @@
 -- A row of 01's table as an answer, and an answer as 01's numbers.
-use mathlib.Core.List.{List}
-use Prim.Native.Nat.{ℕ}
 use lib.ListN.{length}
 use Rattle.paths.specs.Graph.{MARK}
 use Rattle.settling.specs.Answer.{Kind, Row}

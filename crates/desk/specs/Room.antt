@@ -1,5 +1,5 @@
 -- The rooms that the program lends are made once, before it knows the map: long enough for every map that can be used.
-use Prim.Native.Nat.{ℕ, _*_, _≤_}
+use Prim.Native.Nat.{_*_, _≤_}
 use lib.ListN.{length}
 use Rattle.answering.specs.Rooms.{Rooms}
 use Rattle.mapuse.specs.Use.{greatestUsedCells}

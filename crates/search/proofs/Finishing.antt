@@ -12,7 +12,7 @@ use Rattle.paths.specs.Graph.{MARK}
 use Rattle.paths.specs.First.{firstRoute}
 use Rattle.paths.specs.Table.{Right}
 use Rattle.settling.specs.Order.{key}
-use Rattle.settling.specs.Answer.{Kind, Row, costsLeft}
+use Rattle.settling.specs.Answer.{Kind, costsLeft}
 use Rattle.settling.specs.Wave.{Wave}
 use Rattle.settling.specs.Cut.{cheaperThan, rank, cut, Agree}
 use Rattle.paths.proofs.Below.{count-same}

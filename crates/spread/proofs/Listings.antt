@@ -1,6 +1,5 @@
 -- One cell of the list: it is taken off, its steps are taken one direction after the other, and it is done. The laws of the spread, put into the work room.
-use mathlib.Core.Path.{_≡_, refl, sym, _∙_, ap}
-use mathlib.Core.Logic.{_≢_}
+use mathlib.Core.Path.{_≡_, sym, _∙_}
 use mathlib.Core.List.{List, [], _∷_, _++_}
 use Prim.Native.Nat.{ℕ, suc, _+_, _-_, _*_, _≤_, _<_}
 use native.Mathlib.Decide.{ℕ-discrete}
@@ -9,7 +8,6 @@ use native.Mathlib.Omega.{arith}
 use lib.Dec.{T}
 use lib.ListN.{length, getD, set, take, replicate, length-set, length-replicate, getD-replicate}
 use lib.Seq.{getD-set-same, getD-set-other, getD-take, take-suc-set, take-set-le, length-take-le}
-use Rattle.paths.specs.Graph.{MARK}
 use Rattle.settling.specs.Wave.{occ}
 use Rattle.settling.specs.Spread.{Spread, Stepping, Expanding}
 use Rattle.settling.proofs.Waves.{occ-here, occ-there, occ-none, occ-fewer}

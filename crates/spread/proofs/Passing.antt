@@ -1,13 +1,13 @@
 -- A pass makes progress: until it has come to a cell of the least sum nothing is changed, and that cell is taken. The search ends with no listed cell that matters.
-use mathlib.Core.Path.{_≡_, refl, sym, _∙_, ap, subst}
-use mathlib.Core.Logic.{_≢_, _⊎_, inl, inr, ⊎-elim}
+use mathlib.Core.Path.{_≡_, sym, _∙_, ap, subst}
+use mathlib.Core.Logic.{_⊎_, inl, inr, ⊎-elim}
 use mathlib.Core.Bool.{true, not, _&&_}
 use mathlib.Core.List.{List}
 use Prim.Native.Nat.{ℕ, _+_, _≤_, _<_}
 use native.Mathlib.Decide.{ℕ-discrete}
 use native.Mathlib.Omega.{arith}
 use lib.Dec.{eqb, ltb, ltb→lt}
-use lib.ListN.{length, getD, take}
+use lib.ListN.{getD, take}
 use lib.Seq.{getD-take, length-take-le}
 use Rattle.paths.specs.Graph.{MARK}
 use Rattle.paths.proofs.Bools.{T-and, true-T, not-eqb-ne}
@@ -15,11 +15,9 @@ use Rattle.settling.specs.Wave.{occ}
 use Rattle.settling.specs.Spread.{SpreadEnds}
 use Rattle.settling.proofs.Waves.{occ-none}
 use Rattle.settling.proofs.Slices.{place-occ}
-use Rattle.floor.specs.declared.Floor.{Floor}
-use Rattle.floor.specs.declared.Place.{Place}
 use Rattle.floor.specs.Place.{cells, placeOf}
 use Rattle.floor.specs.Step.{graph}
-use Rattle.floor.specs.Estimate.{estimateTo, estimate}
+use Rattle.floor.specs.Estimate.{estimate}
 use Rattle.floor.specs.Refusal.{HasPassed}
 use Rattle.floor.proofs.Passing.{facts}
 use Rattle.floor.proofs.Places.{place-near}

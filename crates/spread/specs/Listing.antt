@@ -3,14 +3,13 @@
 use mathlib.Core.Path.{_≡_}
 use mathlib.Core.Logic.{_≢_}
 use mathlib.Core.List.{List, [], _∷_}
-use Prim.Native.Nat.{ℕ, suc, _+_, _-_, _*_, _≤_, _<_}
+use Prim.Native.Nat.{ℕ, _+_, _-_, _*_, _≤_, _<_}
 use lib.ListN.{length, getD, set, take, replicate}
 use Rattle.paths.specs.Graph.{MARK}
 use Rattle.paths.specs.Below.{LeastOf}
 use Rattle.settling.specs.Wave.{occ}
-use Rattle.settling.specs.Spread.{Spread, Expanding, SpreadEnds}
+use Rattle.settling.specs.Spread.{Spread, Expanding}
 use Rattle.floor.specs.declared.Floor.{Floor}
-use Rattle.floor.specs.declared.Place.{Place}
 use Rattle.floor.specs.Place.{IsNear, cells, placeOf}
 use Rattle.floor.specs.Step.{graph}
 use Rattle.floor.specs.Estimate.{fourWays, estimateTo}

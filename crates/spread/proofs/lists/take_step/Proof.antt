@@ -1,6 +1,6 @@
 -- A step that is barred takes nothing; one that leads to a cell is what `offer` did to it. What is needed on the way holds of any search at hand.
 use mathlib.Core.Path.{_≡_, sym, _∙_}
-use Prim.Native.Nat.{_+_, _≤_, _<_}
+use Prim.Native.Nat.{_<_}
 use native.Mathlib.Omega.{arith}
 use lib.ListN.{length}
 use Rattle.floor.specs.Step.{stepOf}

@@ -1,9 +1,9 @@
 -- The invariant: the list is kept for any search at hand, and the pass has made progress. The measure is what is left of the costs, the list and the pass.
 use mathlib.Core.Path.{_≡_, refl, _∙_}
 use mathlib.Core.Logic.{inl}
-use Prim.Native.Nat.{ℕ, _+_, _-_, _≤_, _<_}
+use Prim.Native.Nat.{ℕ, _+_, _-_, _≤_}
 use native.Mathlib.Omega.{arith}
-use lib.ListN.{length, getD}
+use lib.ListN.{length}
 use Rattle.paths.specs.Graph.{MARK}
 use Rattle.floor.specs.Place.{cells}
 use Rattle.floor.proofs.Laws.{lawful}

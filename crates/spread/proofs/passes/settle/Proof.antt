@@ -1,5 +1,5 @@
 -- The invariant: the search between two cells. The measure is the sum of the costs and the length of the list, which each pass lessens.
-use mathlib.Core.Path.{_≡_, sym, _∙_}
+use mathlib.Core.Path.{sym, _∙_}
 use Prim.Native.Nat.{_+_}
 use native.Mathlib.Omega.{arith}
 use Rattle.floor.proofs.Laws.{lawful}
