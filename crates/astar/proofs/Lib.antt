@@ -1,0 +1,4 @@
+pub mod Keeps
+pub mod Ending
+pub mod Lending
+pub mod Promise

@@ -1,0 +1,2 @@
+pub mod Astar
+pub mod Ends
