@@ -1,18 +1,17 @@
 -- Each record as if alone: the record at place i is answered in rooms that kept their lengths, and what rooms of these lengths hold does not show in an answer.
 use mathlib.Core.Path.{_≡_, refl, sym, _∙_, ap, subst}
 use mathlib.Core.Bool.{Bool, true, false}
-use mathlib.Core.List.{List, [], _++_, append-nil}
-use Prim.Native.Nat.{ℕ, zero, suc, _+_, _*_, _/_, _<_}
+use mathlib.Core.List.{List, [], append-nil}
+use Prim.Native.Nat.{ℕ, _/_, _<_}
 use native.Mathlib.Nat.{div-add-mod'}
 use native.Mathlib.Omega.{arith}
 use lib.ListN.{length, take, drop, length-take, length-drop}
-use lib.Seq.{take-all, take-at, drop-at, drop-length, drop-drop}
+use lib.Seq.{take-all, drop-length}
 use Rattle.floor.specs.declared.Floor.{Floor}
 use Rattle.answering.specs.declared.Answer.{Answer}
 use Rattle.answering.specs.Rooms.{Rooms}
 use Rattle.recordlayout.specs.Record.{recordSize, questionIn, waysIn, endsInZeros, recordOf}
 use Rattle.desk.specs.Desk.{withWays, Asked, no-zeros, searched, Answered, wholeRecords, recordAt, IsAnswered}
-use Rattle.recordlayout.proofs.Records.{record-length}
 use Rattle.tender.specs.SearchTable.{SameLengths}
 use Rattle.tender.specs.Alone.{AsIfAlone}
 use Rattle.tender.proofs.Searches.{a-search, same-answer, same-written}

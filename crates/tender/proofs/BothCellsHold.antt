@@ -14,9 +14,11 @@ use Rattle.answering.specs.Rooms.{Rooms}
 use Rattle.answering.specs.Question.{Question}
 use Rattle.search.specs.Search.{Searched, refused, passed}
 use Rattle.search.proofs.Lending.{search-question}
+use Rattle.astar.specs.Astar.{Aimed}
 use Rattle.tender.specs.BothCells.{Bounded, BothCells}
 use Rattle.tender.proofs.Rowed.{starts}
 use Rattle.tender.proofs.Tabled.{table-holds}
+use Rattle.tender.proofs.AstarTabled.{astar-found, astar-no-stop}
 use Rattle.tender.proofs.Records.{each-record}
 
 refusal-bounded : (n p : ℕ) → Bounded (numbersOf (Answer.Refused n p))
@@ -32,6 +34,12 @@ searched-bounded {f} {m} {q} {r} (passed p x) =
       floor = λ k. bound _ _ (starts x p) (table .stopped-number (table .stopped .0 k) .2);
     }
 
+astar-bounded : {f : Floor} {m : List ℕ} {start goal : ℕ} {r : Rooms} {a : Answer} {r′ : Rooms} → Aimed f m start goal r a r′ → Bounded (numbersOf a)
+astar-bounded {f} {m} {start} {goal} {r} x = record {
+  cost = λ k. let y = astar-found x k in least-cost-bound f m (y .0) start _ _ (y .1) (y .2);
+  floor = λ k. absurd (astar-no-stop x k);
+}
+
 pub both-cells : BothCells
 both-cells = record {
   costs = λ f m v d w c e. omega (arith, step-costs f m v d e);
@@ -44,4 +52,6 @@ both-cells = record {
   records = λ f m bytes r k bytes′ r′ x i h.
       let y = each-record (λ f m q n room. Bounded n) (λ f m q r a r′ x. searched-bounded x) (λ f m q n p room. refusal-bounded n p) f m bytes r k bytes′ r′ x i h in
       (y .0, y .1, y .2 .1);
+  astar = λ f m start goal r a r′ x. astar-bounded x;
+  astar-call = λ f m start goal r n r′ x. rw (x .numbers) (astar-bounded (x .aimed));
 }

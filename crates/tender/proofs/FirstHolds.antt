@@ -35,10 +35,12 @@ use Rattle.answering.specs.declared.Answer.the-variants.{Found, None, Stopped}
 use Rattle.answering.specs.declared.AnswerNumbers.{AnswerNumbers}
 use Rattle.answering.specs.Answers as answer
 use Rattle.answering.specs.Answers.{answered}
-use Rattle.answering.specs.Rooms.{Rooms}
+use Rattle.answering.specs.Rooms.{Rooms, lentLines}
 use Rattle.answering.specs.Question.{Question}
-use Rattle.search.specs.Search.{searchLines, rowOf, Searched, refused, passed, Called}
-use Rattle.search.proofs.Promise.{by-refusal}
+use Rattle.search.specs.Search.{searchLines, rowOf, Searched}
+use Rattle.search.proofs.Promise.{by-table, by-refusal}
+use Rattle.astar.specs.Astar.{aimedRow, Aimed}
+use Rattle.astar.proofs.Promise.{aimed-by-table, aimed-by-refusal}
 use Rattle.recordlayout.specs.Record.{questionIn, waysIn, recordOf}
 use Rattle.desk.specs.Desk.{withWays, Asked, no-zeros, searched, wholeRecords, recordAt, IsAnswered}
 use Rattle.tender.specs.SearchTable.{SameLengths}
@@ -53,19 +55,26 @@ row-no-refusal Kind.found w n p e = let z : _≡_ {A = ℕ} 0 1 = cc in omega ar
 row-no-refusal Kind.none w n p e = let z : _≡_ {A = ℕ} 0 1 = cc in omega arith
 row-no-refusal Kind.stopped w n p e = let z : _≡_ {A = ℕ} 0 1 = cc in omega arith
 
+-- an engine's answer: the refusal that its lines give, which alters nothing, or a row of its table
+module _ (ls : List Line) (rises : T (rising 0 ls)) {a : Answer} {same : Type 0} (by : (n p : ℕ) → screen ls ≡ Refused n p → (a ≡ Answer.Refused n p) × same)
+    (row : screen ls ≡ Passed → (k : Kind) × ((w : Row) × (a ≡ answered k w))) where
+  refused-by : (n p : ℕ) (s : Screen) → screen ls ≡ s → a ≡ Answer.Refused n p → screen ls ≡ Refused n p
+  refused-by n p Passed e h = let w = row e in absurd (row-no-refusal (w .0) (w .1 .0) n p (sym (w .1 .1) ∙ h))
+  refused-by n p (Refused i j) e h = let k = sym (by i j e .0) ∙ h in e ∙ cc
+
+  engine-refuses : Refuses (IsLowestLine ls) (λ n p. a ≡ Answer.Refused n p) same
+  engine-refuses = record {
+    exactly = λ n p. Iff·trans (refused-by n p (screen ls) refl, λ e. by n p e .0) (lowest-line ls 0 rises n p);
+    alters-nothing = λ n p h. by n p (refused-by n p (screen ls) refl h) .1;
+  }
+
 search-refuses : (f : Floor) (m : List ℕ) (q : Question) (r : Rooms) (a : Answer) (r′ : Rooms) → Searched f m q r a r′
     → Refuses (IsLowestLine (searchLines f m q r)) (λ n p. a ≡ Answer.Refused n p) (r′ ≡ r)
-search-refuses f m q r a r′ x = record {
-  exactly = λ n p. Iff·trans (same n p x) (lowest-line (searchLines f m q r) 0 tt n p);
-  alters-nothing = λ n p e. by-refusal x n p (same n p x .0 e) .1;
-}
-  where
-    same : (n p : ℕ) → Searched f m q r a r′ → (a ≡ Answer.Refused n p) ↔ (screen (searchLines f m q r) ≡ Refused n p)
-    same n p (refused i j e b l) = (λ h. cc, λ h. cc)
-    same n p (passed e y) = (
-      λ h. absurd (row-no-refusal (rowOf f m q (y .table) .kind) (rowOf f m q (y .table)) n p (sym (y .answer) ∙ h)),
-      λ h. let z : _≡_ {A = ℕ} 0 1 = cc in absurd (omega arith),
-    )
+search-refuses f m q r a r′ x = engine-refuses (searchLines f m q r) tt (by-refusal x) (λ e. let y = by-table x e in (rowOf f m q (y .table) .kind, (rowOf f m q (y .table), y .answer)))
+
+astar-refuses : (f : Floor) (m : List ℕ) (start goal : ℕ) (r : Rooms) (a : Answer) (r′ : Rooms) → Aimed f m start goal r a r′
+    → Refuses (IsLowestLine (lentLines f m start goal r)) (λ n p. a ≡ Answer.Refused n p) (r′ ≡ r)
+astar-refuses f m start goal r a r′ x = engine-refuses (lentLines f m start goal r) tt (aimed-by-refusal x) (λ e. let y = aimed-by-table x e in (aimedRow f m start goal (y .table) .kind, (aimedRow f m start goal (y .table), y .answer)))
 
 -- the numbers of an answer that gives values tell the screen before it
 abbrev screenIn : Numbers → Screen
@@ -136,14 +145,14 @@ refusal-numbers (Found s c l) n p e = absurd (omega (arith, ap (λ (x : AnswerNu
 refusal-numbers (None s) n p e = absurd (omega (arith, ap (λ (x : AnswerNumbers). x .kind) e))
 refusal-numbers (Stopped s c) n p e = absurd (omega (arith, ap (λ (x : AnswerNumbers). x .kind) e))
 
-call-refuses : (f : Floor) (m : List ℕ) (q : Question) (r : Rooms) (x : AnswerNumbers) (r′ : Rooms) → Called f m q r x r′
-    → Refuses (IsLowestLine (searchLines f m q r)) (λ n p. x ≡ answer.numbersOf (Answer.Refused n p)) (r′ ≡ r)
-call-refuses f m q r x r′ c =
-    let s = search-refuses f m q r (c .answer) r′ (c .searched) in
-    let same : (n p : ℕ) → x ≡ answer.numbersOf (Answer.Refused n p) → c .answer ≡ Answer.Refused n p = λ n p e. refusal-numbers (c .answer) n p (sym (c .numbers) ∙ e) in
+-- and so for an engine's call
+call-refuses : {due : ℕ → ℕ → Type 0} {same : Type 0} (a : Answer) (x : AnswerNumbers) → x ≡ answer.numbersOf a → Refuses due (λ n p. a ≡ Answer.Refused n p) same
+    → Refuses due (λ n p. x ≡ answer.numbersOf (Answer.Refused n p)) same
+call-refuses a x e s =
+    let back : (n p : ℕ) → x ≡ answer.numbersOf (Answer.Refused n p) → a ≡ Answer.Refused n p = λ n p h. refusal-numbers a n p (sym e ∙ h) in
     record {
-      exactly = λ n p. (λ e. s .exactly n p .0 (same n p e), λ h. c .numbers ∙ ap answer.numbersOf (s .exactly n p .1 h));
-      alters-nothing = λ n p e. s .alters-nothing n p (same n p e);
+      exactly = λ n p. (λ h. s .exactly n p .0 (back n p h), λ h. e ∙ ap answer.numbersOf (s .exactly n p .1 h));
+      alters-nothing = λ n p h. s .alters-nothing n p (back n p h);
     }
 
 -- the collector's number
@@ -206,7 +215,9 @@ records-refuse f m bytes r k bytes′ r′ x i h n =
 pub first-condition : FirstCondition
 first-condition = record {
   search = search-refuses;
-  search-call = call-refuses;
+  search-call = λ f m q r x r′ c. call-refuses (c .answer) x (c .numbers) (search-refuses f m q r (c .answer) r′ (c .searched));
+  astar = astar-refuses;
+  astar-call = λ f m start goal r x r′ c. call-refuses (c .answer) x (c .numbers) (astar-refuses f m start goal r (c .answer) r′ (c .aimed));
   route-call = call-says;
   table-call = table-says;
   reader-call = λ text room x room′ c.

@@ -4,6 +4,7 @@ pub mod Unlogged
 pub mod Rowed
 pub mod Leaving
 pub mod Tabled
+pub mod AstarTabled
 pub mod Searches
 pub mod Records
 pub mod FirstHolds
@@ -11,6 +12,7 @@ pub mod SecondHolds
 pub mod ThirdHolds
 pub mod LimitsHold
 pub mod BothCellsHold
+pub mod TwoEnginesHold
 pub mod OneTable
 pub mod AloneHolds
 pub mod Logged

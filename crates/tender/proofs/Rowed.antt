@@ -1,5 +1,6 @@
 -- From the search's promise to the row of 01's table that an answer comes from: the number of its kind tells which, and the row's meaning is known.
 use mathlib.Core.Path.{_≡_, refl, sym, _∙_, ap}
+use mathlib.Core.Logic.{_↔_}
 use mathlib.Core.Bool.{cond}
 use mathlib.Core.List.{List, _++_}
 use Prim.Native.Nat.{ℕ, _≤_, _<_}
@@ -41,7 +42,7 @@ zero-no-code Kind.found e = omega arith
 zero-no-code Kind.none e = omega arith
 zero-no-code Kind.stopped e = omega arith
 
-pub code-answered : (k : Kind) (r : Row) → numbersOf (answered k r) .kind ≡ code k
+code-answered : (k : Kind) (r : Row) → numbersOf (answered k r) .kind ≡ code k
 code-answered Kind.found r = refl
 code-answered Kind.none r = refl
 code-answered Kind.stopped r = refl
@@ -50,6 +51,34 @@ settled-answered : (k : Kind) (r : Row) → numbersOf (answered k r) .settled �
 settled-answered Kind.found r = refl
 settled-answered Kind.none r = refl
 settled-answered Kind.stopped r = refl
+
+-- no more of the route room is told of than the row's route
+pub answered-length : (k : Kind) (w : Row) → numbersOf (answered k w) .length ≤ length (w .route)
+answered-length Kind.found w = omega arith
+answered-length Kind.none w = omega arith
+answered-length Kind.stopped w = omega arith
+
+none-refused : (k : Kind) (w : Row) → (numbersOf (answered k w) .refusal ≡ 0) × (numbersOf (answered k w) .place ≡ 0)
+none-refused Kind.found w = (refl, refl)
+none-refused Kind.none w = (refl, refl)
+none-refused Kind.stopped w = (refl, refl)
+
+-- an answer that comes from a row, of either engine
+module _ {a : Answer} (w : Row) (e : a ≡ answered (w .kind) w) where
+  pub row-answer : (k : Kind) → w .kind ≡ k → a ≡ answered k w
+  row-answer k h = e ∙ ap (λ (k : Kind). answered k w) h
+
+  pub row-kind : (k : Kind) → (numbersOf a .kind ≡ code k) ↔ (w .kind ≡ k)
+  row-kind k = (
+    λ h. sym (kind-back (w .kind)) ∙ ap kindOf (sym (code-answered (w .kind) w) ∙ sym (ap (λ (b : Answer). numbersOf b .kind) e) ∙ h) ∙ kind-back k,
+    λ h. ap (λ (b : Answer). numbersOf b .kind) (row-answer k h) ∙ code-answered k w,
+  )
+
+  pub row-settled : numbersOf a .settled ≡ w .settled
+  row-settled = ap (λ (b : Answer). numbersOf b .settled) e ∙ settled-answered (w .kind) w
+
+  pub row-no-refusal : (numbersOf a .refusal ≡ 0) × (numbersOf a .place ≡ 0)
+  row-no-refusal = rw e (none-refused (w .kind) w)
 
 module _ {f : Floor} {m : List ℕ} {q : Question} {r : Rooms} {a : Answer} {r′ : Rooms} (x : ByTable f m q r a r′) where
   abbrev pub given : Row
@@ -63,17 +92,16 @@ module _ {f : Floor} {m : List ℕ} {q : Question} {r : Rooms} {a : Answer} {r�
 
   -- an answer of that kind
   pub as-row : (k : Kind) → given .kind ≡ k → a ≡ answered k given
-  as-row k h = x .answer ∙ ap (λ (k : Kind). answered k given) h
+  as-row = row-answer given (x .answer)
 
   pub from-row : (k : Kind) → numbersOf a .kind ≡ code k → FromRow k
   from-row k e =
-      let c = sym (code-answered (given .kind) given) ∙ sym (ap (λ (b : Answer). numbersOf b .kind) (x .answer)) ∙ e in
-      let h = sym (kind-back (given .kind)) ∙ ap kindOf c ∙ kind-back k in
+      let h = row-kind given (x .answer) k .0 e in
       record { kind = h; answer = as-row k h; route = ap (λ (z : Rooms). z .route) (x .leaves) }
 
   -- the settled count is the row's
   pub settled-is : numbersOf a .settled ≡ given .settled
-  settled-is = ap (λ (b : Answer). numbersOf b .settled) (as-row (given .kind) refl) ∙ settled-answered (given .kind) given
+  settled-is = row-settled given (x .answer)
 
   -- what a question that passed gives
   module _ (p : screen (searchLines f m q r) ≡ Passed) where

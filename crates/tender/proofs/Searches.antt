@@ -1,16 +1,13 @@
 -- Two searches of one question: the refusals look at the rooms' lengths alone, the right table is one, and the written parts are computed from it.
 use mathlib.Core.Path.{_≡_, refl, sym, _∙_, ap}
 use mathlib.Core.List.{List}
-use Prim.Native.Nat.{ℕ, _*_, _≤_}
-use native.Mathlib.Omega.{arith}
-use lib.ListN.{length, take, drop, replicate}
-use lib.Seq.{take-at, take-append-le}
-use Rattle.settling.specs.Answer.{Kind, Row, costsLeft}
+use Prim.Native.Nat.{ℕ, _≤_}
+use lib.ListN.{length, take}
+use Rattle.settling.specs.Answer.{costsLeft}
 use Rattle.paths.proofs.Exists.{right-unique, right-exists}
 use Rattle.floor.specs.declared.Floor.{Floor}
 use Rattle.floor.specs.declared.Screen.{Screen}
 use Rattle.floor.specs.declared.Screen.the-variants.{Passed, Refused}
-use Rattle.floor.specs.Place.{cells}
 use Rattle.floor.specs.Step.{graph}
 use Rattle.floor.specs.Refusal.{screen}
 use Rattle.floor.proofs.Laws.{lawful}
@@ -24,8 +21,8 @@ use Rattle.search.proofs.Lending.{search-question, searched-refused}
 use Rattle.search.proofs.Promise.{by-table, by-refusal}
 use Rattle.tender.specs.SearchTable.{SameLengths}
 use Rattle.tender.specs.Alone.{SameWritten}
-use Rattle.tender.proofs.Rowed.{given, as-row}
-use Rattle.tender.proofs.Leaving.{costs-left, work-left, route-left, costs-cover, work-cover, lengths-stay}
+use Rattle.tender.proofs.Rowed.{answered-length, given, as-row}
+use Rattle.tender.proofs.Leaving.{search-left, costs-written, search-way, lengths-stay}
 
 -- there is an answer to every question
 pub a-search : (f : Floor) (m : List ℕ) (q : Question) (r : Rooms) → (a : Answer) × (r′ : Rooms) × Searched f m q r a r′
@@ -43,27 +40,12 @@ pub search-lengths : {f : Floor} {m : List ℕ} {q : Question} {r : Rooms} {a : 
 search-lengths (refused n w e b l) = rw l (record { costs = refl; work = refl; route = refl })
 search-lengths (passed e x) = lengths-stay x e
 
--- no more of the route room is told of than the row's route
-answered-length : (k : Kind) (w : Row) → numbersOf (answered k w) .length ≤ length (w .route)
-answered-length Kind.found w = omega arith
-answered-length Kind.none w = omega arith
-answered-length Kind.stopped w = omega arith
-
 module _ {f : Floor} {m : List ℕ} {q : Question} {r : Rooms} {a : Answer} {r′ : Rooms} (x : ByTable f m q r a r′)
     (e : screen (searchLines f m q r) ≡ Passed) where
-  costs-written : take (cells f) (r′ .costs) ≡ costsLeft (x .table) (given x .settled)
-  costs-written =
-      ap (take (cells f)) (costs-left x e) ∙ take-at (costsLeft (x .table) (given x .settled)) (drop (cells f) (r .costs)) (cells f) (costs-cover x e)
-
-  work-written : take (2 * cells f) (r′ .work) ≡ replicate (2 * cells f) 0
-  work-written =
-      ap (take (2 * cells f)) (work-left x e) ∙ take-at (replicate (2 * cells f) 0) (drop (2 * cells f) (r .work)) (2 * cells f) (work-cover x e)
-
-  route-written : take (numbersOf a .length) (r′ .route) ≡ take (numbersOf a .length) (given x .route)
+  pub route-written : take (numbersOf a .length) (r′ .route) ≡ take (numbersOf a .length) (given x .route)
   route-written =
       let told : numbersOf a .length ≤ length (given x .route) = rw (as-row x (given x .kind) refl) (answered-length (given x .kind) (given x)) in
-      ap (take (numbersOf a .length)) (route-left x e)
-      ∙ take-append-le (numbersOf a .length) (given x .route) (drop (length (given x .route)) (r .route)) told
+      search-way x e (numbersOf a .length) told
 
 -- rooms of the same lengths are refused alike
 pub same-screen : (f : Floor) (m : List ℕ) (q : Question) {r p : Rooms} → SameLengths r p → screen (searchLines f m q p) ≡ screen (searchLines f m q r)
@@ -88,7 +70,7 @@ module _ {f : Floor} {m : List ℕ} {q : Question} {r p : Rooms} (same : SameLen
       let t = same-table x y in
       record {
         costs = costs-written x e ∙ ap (λ (t : List ℕ). costsLeft t (rowOf f m q t .settled)) t ∙ sym (costs-written y k);
-        work = work-written x e ∙ sym (work-written y k);
+        work = search-left x e .zeros ∙ sym (search-left y k .zeros);
         route = route-written x e ∙ ap (λ (t : List ℕ). take (numbersOf a .length) (rowOf f m q t .route)) t
             ∙ rw (same-answer v w) (sym (route-written y k));
       }

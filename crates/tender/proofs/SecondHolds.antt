@@ -1,4 +1,4 @@
--- The second condition: 01's table holds of every search and call (Tabled); claims and map text have their own theorems.
+-- The second condition: 01's table holds of every search and call (Tabled), R-4's sentence of A* (AstarTabled); claims and map text have their own theorems.
 use mathlib.Core.Path.{_≡_, refl, sym, _∙_, ap}
 use mathlib.Core.Bool.{Bool, true, false, cond, _||_}
 use mathlib.Core.Logic.{_↔_}
@@ -31,12 +31,14 @@ use Rattle.answering.specs.Answers.{numbersOf}
 use Rattle.answering.specs.Rooms.{Rooms}
 use Rattle.search.specs.Search.{searchLines}
 use Rattle.search.proofs.Promise.{by-table}
+use Rattle.astar.proofs.Promise.{aimed-by-table}
 use Rattle.recordlayout.specs.Record.{questionIn, waysIn, endsInZeros, recordOf}
 use Rattle.mapuse.specs.Use.{greatestText, greatestUsedSide, withinSides, usedOf, IsUsed}
 use Rattle.desk.specs.Desk.{withWays, Asked, no-zeros, searched, wholeRecords}
 use Rattle.tender.specs.SearchTable.{SameLengths}
 use Rattle.tender.specs.SecondCondition.{RecordHolds, SecondCondition}
 use Rattle.tender.proofs.Tabled.{table-holds}
+use Rattle.tender.proofs.AstarTabled.{astar-answers}
 use Rattle.tender.proofs.Searches.{same-screen}
 use Rattle.tender.proofs.Records.{record-numbers, answered-each}
 
@@ -89,6 +91,8 @@ second-condition = record {
   records = λ f m bytes r k bytes′ r′ x i h z s.
       let y = answered-each f m (wholeRecords bytes) bytes r bytes′ r′ (x .records) i h in
       of-record r (y .lengths) (y .asked) (y .leaves) z s;
+  astar = λ f m start goal r a r′ x p. astar-answers (aimed-by-table x p) p;
+  astar-call = λ f m start goal r n r′ x p. rw (x .numbers) (astar-answers (aimed-by-table (x .aimed) p) p);
   route-call = λ f m c fits x e. (accepted-exactly f m c fits x e, accepted-cost f m c fits x e);
   table-call = λ f m s t x e p. (
     (λ z. zero-right f m s t x e .0 z .1, λ w. zero-right f m s t x e .1 (p, w)),

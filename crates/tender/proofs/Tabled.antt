@@ -2,11 +2,10 @@
 use mathlib.Core.Path.{_≡_, refl, sym, _∙_, ap}
 use mathlib.Core.Logic.{_↔_, Iff·trans, _≢_}
 use mathlib.Core.List.{List, [], _++_}
-use Prim.Native.Nat.{ℕ, _+_, _*_, _≤_, _<_}
+use Prim.Native.Nat.{ℕ, _+_, _≤_, _<_}
 use native.Mathlib.Decide.{ℕ-discrete, decLt}
 use native.Mathlib.Omega.{arith}
-use lib.ListN.{length, getD, take, drop, replicate, List·getD-append}
-use lib.Seq.{take-at, drop-at}
+use lib.ListN.{length, getD, drop}
 use Rattle.paths.specs.Graph.{MARK}
 use Rattle.paths.specs.Route.{Reachable, Least}
 use Rattle.paths.specs.First.{firstRoute}
@@ -29,16 +28,11 @@ use Rattle.answering.specs.Rooms.{Rooms}
 use Rattle.answering.specs.Question.{Question}
 use Rattle.search.specs.Search.{searchLines, ByTable}
 use Rattle.tender.specs.SearchTable.{GoalWithin, GoalMissing, Otherwise, BeginsWithRoute, Answers, TableHolds}
-use Rattle.tender.proofs.Rowed.{given, law, starts, ends, settled-is, code-answered, from-row, as-row}
-use Rattle.tender.proofs.Leaving.{costs-left, work-left, route-left, costs-cover, work-cover, lengths-stay}
+use Rattle.tender.proofs.Rowed.{row-kind, row-no-refusal, given, law, starts, ends, settled-is, as-row}
+use Rattle.tender.proofs.Leaving.{search-left, route-left, lengths-stay}
 
 kinds-apart : {k l : Kind} → k ≡ l → code k ≢ code l → ⊥
 kinds-apart e n = n (ap code e)
-
-no-refusal : (k : Kind) (w : Row) → (numbersOf (answered k w) .refusal ≡ 0) × (numbersOf (answered k w) .place ≡ 0)
-no-refusal Kind.found w = (refl, refl)
-no-refusal Kind.none w = (refl, refl)
-no-refusal Kind.stopped w = (refl, refl)
 
 module _ {f : Floor} {m : List ℕ} {q : Question} {r : Rooms} {a : Answer} {r′ : Rooms} (x : ByTable f m q r a r′)
     (p : screen (searchLines f m q r) ≡ Passed) where
@@ -57,13 +51,6 @@ module _ {f : Floor} {m : List ℕ} {q : Question} {r : Rooms} {a : Answer} {r�
 
   stands : (v : ℕ) → Reachable (graph f m) (q .start) v → At l (place v l) v
   stands v w = in-place l v (L-members (law x p) (q .start) (starts x p) t (x .right) v .1 w)
-
-  -- the kind of the answer is that of its row
-  kind-is : (k : Kind) → (numbersOf a .kind ≡ code k) ↔ (given x .kind ≡ k)
-  kind-is k = (
-    λ e. from-row x k e .kind,
-    λ h. ap (λ (b : Answer). numbersOf b .kind) (as-row x k h) ∙ code-answered k (given x),
-  )
 
   when-found : (given x .kind ≡ Kind.found) ↔ GoalWithin l q
   when-found = Iff·trans (found-exactly (law x p) (q .start) (starts x p) t (x .right) (q .goal) (ends x p) (q .limit)) (
@@ -123,7 +110,7 @@ module _ {f : Floor} {m : List ℕ} {q : Question} {r : Rooms} {a : Answer} {r�
   value-least : (v : ℕ) → Reachable (graph f m) (q .start) v → Least (graph f m) (q .start) v (getD t v 0)
   value-least = reached-value (law x p) (q .start) (starts x p) t (x .right)
 
-  begins : given x .kind ≡ Kind.found → BeginsWithRoute f m q (numbersOf a .length) (r .route) (r′ .route)
+  begins : given x .kind ≡ Kind.found → BeginsWithRoute f m (q .start) (q .goal) (numbersOf a .length) (r .route) (r′ .route)
   begins k =
       let n : numbersOf a .length ≡ length (given x .route) = ap (λ (b : AnswerNumbers). b .length) (columns Kind.found k refl) in
       record {
@@ -142,10 +129,7 @@ module _ {f : Floor} {m : List ℕ} {q : Question} {r : Rooms} {a : Answer} {r�
 
   -- a cell of the map in the costs room
   cell-left : (v : ℕ) → v < cells f → getD (r′ .costs) v 0 ≡ getD (costsLeft t (numbersOf a .settled)) v 0
-  cell-left v h =
-      ap (λ (c : List ℕ). getD c v 0) (costs-left x p)
-      ∙ List·getD-append (costsLeft t (given x .settled)) (drop (cells f) (r .costs)) 0 v (omega (arith, costs-cover x p))
-      ∙ ap (λ (k : ℕ). getD (costsLeft t k) v 0) (sym (settled-is x))
+  cell-left v h = search-left x p .cell v h ∙ ap (λ (k : ℕ). getD (costsLeft t k) v 0) (sym (settled-is x))
 
   settled-cost : (i v : ℕ) → At l i v → i < numbersOf a .settled → Least (graph f m) (q .start) v (getD (r′ .costs) v 0)
   settled-cost i v s h =
@@ -166,8 +150,8 @@ module _ {f : Floor} {m : List ℕ} {q : Question} {r : Rooms} {a : Answer} {r�
 
   pub answers : Answers f m q l (numbersOf a) r r′
   answers = record {
-    not-refused = rw (as-row x (given x .kind) refl) (no-refusal (given x .kind) (given x));
-    found = Iff·trans (kind-is Kind.found) when-found;
+    not-refused = row-no-refusal (given x) (x .answer);
+    found = Iff·trans (row-kind (given x) (x .answer) Kind.found) when-found;
     found-settled = λ w.
         let k = when-found .1 w in
         omega (arith, ap (λ (b : AnswerNumbers). b .settled) (columns Kind.found k (row-found k)), standing (w .i) (q .goal) (w .place) .1);
@@ -175,13 +159,13 @@ module _ {f : Floor} {m : List ℕ} {q : Question} {r : Rooms} {a : Answer} {r�
         let k = when-found .1 w in
         rw (ap (λ (b : AnswerNumbers). b .number) (columns Kind.found k (row-found k))) (value-least (q .goal) (standing (w .i) (q .goal) (w .place) .0));
     found-route = λ w. begins (when-found .1 w);
-    none = Iff·trans (kind-is Kind.none) when-none;
+    none = Iff·trans (row-kind (given x) (x .answer) Kind.none) when-none;
     none-settled = λ w. let k = when-none .1 w in ap (λ (b : AnswerNumbers). b .settled) (columns Kind.none k (row-none k));
     none-number = λ w. let k = when-none .1 w in ap (λ (b : AnswerNumbers). b .number) (columns Kind.none k (row-none k));
     none-route = λ w.
         let k = when-none .1 w in
         (ap (λ (b : AnswerNumbers). b .length) (columns Kind.none k (row-none k)), route-kept (row-none k) refl);
-    stopped = Iff·trans (kind-is Kind.stopped) when-stopped;
+    stopped = Iff·trans (row-kind (given x) (x .answer) Kind.stopped) when-stopped;
     stopped-settled = λ w. let k = when-stopped .1 w in ap (λ (b : AnswerNumbers). b .settled) (columns Kind.stopped k (row-stopped k));
     stopped-number = λ w. next-cost (when-stopped .1 w);
     stopped-route = λ w.
@@ -189,9 +173,9 @@ module _ {f : Floor} {m : List ℕ} {q : Question} {r : Rooms} {a : Answer} {r�
         (ap (λ (b : AnswerNumbers). b .length) (columns Kind.stopped k (row-stopped k)), route-kept (row-stopped k) refl);
     costs = settled-cost;
     marks = other-mark;
-    zeros = ap (take (2 * cells f)) (work-left x p) ∙ take-at (replicate (2 * cells f) 0) (drop (2 * cells f) (r .work)) (2 * cells f) (work-cover x p);
-    costs-beyond = ap (drop (cells f)) (costs-left x p) ∙ drop-at (costsLeft t (given x .settled)) (drop (cells f) (r .costs)) (cells f) (costs-cover x p);
-    work-beyond = ap (drop (2 * cells f)) (work-left x p) ∙ drop-at (replicate (2 * cells f) 0) (drop (2 * cells f) (r .work)) (2 * cells f) (work-cover x p);
+    zeros = search-left x p .zeros;
+    costs-beyond = search-left x p .costs-beyond;
+    work-beyond = search-left x p .work-beyond;
     lengths = lengths-stay x p;
   }
 

@@ -1,10 +1,10 @@
 -- The third condition: a found route costs least and a floor no more than any route, and the floor crate compares true lengths by costs.
 use mathlib.Core.Path.{_≡_, refl}
 use mathlib.Core.List.{List, [], _∷_}
-use Prim.Native.Nat.{ℕ, _*_}
+use Prim.Native.Nat.{ℕ, _*_, _≤_}
 use native.Mathlib.Omega.{arith}
 use lib.ListN.{take, replicate}
-use Rattle.paths.specs.Route.{costOf}
+use Rattle.paths.specs.Route.{costOf, Route}
 use Rattle.paths.specs.First.{First}
 use Rattle.floor.specs.declared.Floor.{Floor}
 use Rattle.floor.specs.Length.{surd, square, times, squared, stepLength, lengthOf}
@@ -12,12 +12,15 @@ use Rattle.floor.specs.Step.{stepWeight, stepCost, target, graph}
 use Rattle.floor.proofs.Lengths.{cost-over-length, cost-under-length, floor-under-length, length-under-length}
 use Rattle.answering.specs.declared.Answer.{Answer}
 use Rattle.answering.specs.declared.Answer.the-variants.{Found, None, Stopped}
+use Rattle.answering.specs.declared.AnswerNumbers.{AnswerNumbers}
 use Rattle.answering.specs.Answers.{numbersOf}
 use Rattle.answering.specs.Rooms.{Rooms}
 use Rattle.answering.specs.Question.{Question}
 use Rattle.search.specs.Search.{Searched}
+use Rattle.astar.specs.Astar.{Aimed}
 use Rattle.tender.specs.ThirdCondition.{Measured, ThirdCondition}
 use Rattle.tender.proofs.Rowed.{found-route, stopped-below}
+use Rattle.tender.proofs.AstarTabled.{astar-way, astar-no-stop}
 use Rattle.tender.proofs.Records.{each-record}
 
 -- an answer is found or stopped exactly by its kind
@@ -33,25 +36,35 @@ stopped-is (Found s c l) e = absurd (omega arith)
 stopped-is (None s) e = absurd (omega arith)
 stopped-is (Stopped s c) e = refl
 
-module _ {f : Floor} {m : List ℕ} {q : Question} {r : Rooms} {a : Answer} {r′ : Rooms} (x : Searched f m q r a r′) where
+-- of either engine: a found route costs least, and no route costs less than a floor
+module _ (f : Floor) (m : List ℕ) (start goal : ℕ) (n : AnswerNumbers) (room : List ℕ)
+    (way : n .kind ≡ 1 → First (graph f m) start goal (take (n .length) room) × (costOf (graph f m) start (take (n .length) room) ≡ n .number))
+    (below : n .kind ≡ 3 → (ds : List ℕ) → Route (graph f m) start goal ds → n .number ≤ costOf (graph f m) start ds) where
   abbrev ds : List ℕ
-  ds = take (numbersOf a .length) (r′ .route)
+  ds = take (n .length) room
 
-  way : numbersOf a .kind ≡ 1 → First (graph f m) (q .start) (q .goal) ds × (costOf (graph f m) (q .start) ds ≡ numbersOf a .number)
-  way e = found-route x (numbersOf a .settled) (numbersOf a .number) (numbersOf a .length) (found-is a e)
+  measured : Measured f m start goal n room
+  measured = record {
+    nearly-shortest = λ e es w. let y = way e in length-under-length f m start es (w .allowed) start ds (y .0 .route .allowed) (y .0 .least es w);
+    cost-above = λ e. let y = way e in rw (y .1) at (cost-over-length f m start ds (y .0 .route .allowed));
+    cost-below = λ e. let y = way e in rw (y .1) at (cost-under-length f m start ds (y .0 .route .allowed));
+    floor-below = λ e es w. floor-under-length f m start es (w .allowed) (n .number) (below e es w);
+  }
 
-  of-search : Measured f m q (numbersOf a) (r′ .route)
-  of-search =
-      record {
-        nearly-shortest = λ e es w. let y = way e in length-under-length f m (q .start) es (w .allowed) (q .start) ds (y .0 .route .allowed) (y .0 .least es w);
-        cost-above = λ e. let y = way e in rw (y .1) at (cost-over-length f m (q .start) ds (y .0 .route .allowed));
-        cost-below = λ e. let y = way e in rw (y .1) at (cost-under-length f m (q .start) ds (y .0 .route .allowed));
-        floor-below = λ e es w.
-            floor-under-length f m (q .start) es (w .allowed) (numbersOf a .number) (stopped-below x (numbersOf a .settled) (numbersOf a .number) (stopped-is a e) es w);
-      }
+of-search : {f : Floor} {m : List ℕ} {q : Question} {r : Rooms} {a : Answer} {r′ : Rooms} → Searched f m q r a r′
+    → Measured f m (q .start) (q .goal) (numbersOf a) (r′ .route)
+of-search {f} {m} {q} {a = a} {r′ = r′} x =
+    measured f m (q .start) (q .goal) (numbersOf a) (r′ .route)
+    (λ e. found-route x (numbersOf a .settled) (numbersOf a .number) (numbersOf a .length) (found-is a e))
+    (λ e. stopped-below x (numbersOf a .settled) (numbersOf a .number) (stopped-is a e))
+
+of-astar : {f : Floor} {m : List ℕ} {start goal : ℕ} {r : Rooms} {a : Answer} {r′ : Rooms} → Aimed f m start goal r a r′
+    → Measured f m start goal (numbersOf a) (r′ .route)
+of-astar {f} {m} {start} {goal} {a = a} {r′ = r′} x =
+    measured f m start goal (numbersOf a) (r′ .route) (astar-way x) (λ e. absurd (astar-no-stop x e))
 
 -- a refusal is neither found nor stopped
-of-refusal : (f : Floor) (m : List ℕ) (q : Question) (n p : ℕ) (room : List ℕ) → Measured f m q (numbersOf (Answer.Refused n p)) room
+of-refusal : (f : Floor) (m : List ℕ) (q : Question) (n p : ℕ) (room : List ℕ) → Measured f m (q .start) (q .goal) (numbersOf (Answer.Refused n p)) room
 of-refusal f m q n p room = record {
   nearly-shortest = λ k ds w. absurd (omega arith);
   cost-above = λ k. absurd (omega arith);
@@ -64,7 +77,9 @@ pub third-condition : ThirdCondition
 third-condition = record {
   search = λ f m q r a r′ x. of-search x;
   call = λ f m q r n r′ x. rw (x .numbers) (of-search (x .searched));
-  records = each-record Measured (λ f m q r a r′ x. of-search x) of-refusal;
+  records = each-record (λ f m q. Measured f m (q .start) (q .goal)) (λ f m q r a r′ x. of-search x) of-refusal;
+  astar = λ f m start goal r a r′ x. of-astar x;
+  astar-call = λ f m start goal r n r′ x. rw (x .numbers) (of-astar (x .aimed));
 }
 
 -- 01's example with the weights that 02's R-3 doubles: two diagonal steps of weight 2 have T² = 32 and cost 396, and 2 × 396² = 9801 × 32, so the bound is reached

@@ -17,6 +17,7 @@ use Rattle.answering.specs.Answers.{numbersOf}
 use Rattle.answering.specs.Rooms.{Rooms}
 use Rattle.answering.specs.Question.{Question}
 use Rattle.search.specs.Search.{Searched, Called}
+use Rattle.astar.specs.Astar.{Aimed, AimedCall}
 use Rattle.recordlayout.specs.Record.{recordFor}
 use Rattle.desk.specs.Desk.{wholeRecords, recordAt, IsAnswered}
 
@@ -47,3 +48,5 @@ pub record BothCells : Type 0 where
   pub call : (f : Floor) (m : List ℕ) (q : Question) (r : Rooms) (n : AnswerNumbers) (r′ : Rooms) → Called f m q r n r′ → Bounded n
   pub records : (f : Floor) (m bytes : List ℕ) (r : Rooms) (k : ℕ) (bytes′ : List ℕ) (r′ : Rooms) → IsAnswered f m bytes r k bytes′ r′
       → (i : ℕ) → i < wholeRecords bytes → (n : AnswerNumbers) × (recordAt i bytes′ ≡ recordFor n) × Bounded n
+  pub astar : (f : Floor) (m : List ℕ) (start goal : ℕ) (r : Rooms) (a : Answer) (r′ : Rooms) → Aimed f m start goal r a r′ → Bounded (numbersOf a)
+  pub astar-call : (f : Floor) (m : List ℕ) (start goal : ℕ) (r : Rooms) (n : AnswerNumbers) (r′ : Rooms) → AimedCall f m start goal r n r′ → Bounded n

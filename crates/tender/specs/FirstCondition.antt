@@ -30,9 +30,10 @@ use Rattle.claims.specs.Table.{tableLines, tableVerdict, asFault}
 use Rattle.answering.specs.declared.Answer.{Answer}
 use Rattle.answering.specs.declared.AnswerNumbers.{AnswerNumbers}
 use Rattle.answering.specs.Answers as answer
-use Rattle.answering.specs.Rooms.{Rooms}
+use Rattle.answering.specs.Rooms.{Rooms, lentLines}
 use Rattle.answering.specs.Question.{Question}
 use Rattle.search.specs.Search.{searchLines, Searched, Called}
+use Rattle.astar.specs.Astar.{Aimed, AimedCall}
 use Rattle.routelog.specs.declared.Outcome.{Outcome}
 use Rattle.routelog.specs.declared.EntryRead.{EntryRead}
 use Rattle.routelog.specs.declared.EntryNumbers.{EntryNumbers}
@@ -84,6 +85,11 @@ pub record FirstCondition : Type 0 where
       → Refuses (IsLowestLine (searchLines f m q r)) (λ n p. a ≡ Answer.Refused n p) (r′ ≡ r)
   pub search-call : (f : Floor) (m : List ℕ) (q : Question) (r : Rooms) (x : AnswerNumbers) (r′ : Rooms) → Called f m q r x r′
       → Refuses (IsLowestLine (searchLines f m q r)) (λ n p. x ≡ answer.numbersOf (Answer.Refused n p)) (r′ ≡ r)
+  -- A*: refusals 1 to 11
+  pub astar : (f : Floor) (m : List ℕ) (start goal : ℕ) (r : Rooms) (a : Answer) (r′ : Rooms) → Aimed f m start goal r a r′
+      → Refuses (IsLowestLine (lentLines f m start goal r)) (λ n p. a ≡ Answer.Refused n p) (r′ ≡ r)
+  pub astar-call : (f : Floor) (m : List ℕ) (start goal : ℕ) (r : Rooms) (x : AnswerNumbers) (r′ : Rooms) → AimedCall f m start goal r x r′
+      → Refuses (IsLowestLine (lentLines f m start goal r)) (λ n p. x ≡ answer.numbersOf (Answer.Refused n p)) (r′ ≡ r)
   pub route-check : (f : Floor) (m : List ℕ) (c : Claim) (v : RouteVerdict) → route.numbersOf v ≡ routeVerdict f m c
       → (n p : ℕ) → (v ≡ RouteVerdict.Refused n p) ↔ IsLowestLine (claimLines f m c) n p
   pub route-call : (f : Floor) (m : List ℕ) (c : Claim) → c .cost ≤ MARK → (x : ℕ) → x ≡ packed (routeVerdict f m c)

@@ -1,9 +1,11 @@
 pub mod Cases
 pub mod FirstCondition
 pub mod SearchTable
+pub mod AstarTable
 pub mod SecondCondition
 pub mod Alone
 pub mod ThirdCondition
 pub mod Limits
 pub mod BothCells
+pub mod TwoEngines
 pub mod RouteLog

@@ -32,9 +32,9 @@ pub record Otherwise (l : List ℕ) (q : Question) : Type 0 where
   pub not-none : GoalMissing l q → ⊥
 
 -- the route room begins with the first least-cost route, of n steps, and is untouched further along
-pub record BeginsWithRoute (f : Floor) (m : List ℕ) (q : Question) (n : ℕ) (room room′ : List ℕ) : Type 0 where
+pub record BeginsWithRoute (f : Floor) (m : List ℕ) (start goal n : ℕ) (room room′ : List ℕ) : Type 0 where
   pub way : List ℕ
-  pub first : First (graph f m) (q .start) (q .goal) way
+  pub first : First (graph f m) start goal way
   pub steps : n ≡ length way
   pub leaves : room′ ≡ way ++ drop n room
 
@@ -49,7 +49,7 @@ pub record Answers (f : Floor) (m : List ℕ) (q : Question) (l : List ℕ) (n :
   pub found : (n .kind ≡ 1) ↔ GoalWithin l q
   pub found-settled : (w : GoalWithin l q) → n .settled ≡ w .i + 1
   pub found-number : GoalWithin l q → Least (graph f m) (q .start) (q .goal) (n .number)
-  pub found-route : GoalWithin l q → BeginsWithRoute f m q (n .length) (r .route) (r′ .route)
+  pub found-route : GoalWithin l q → BeginsWithRoute f m (q .start) (q .goal) (n .length) (r .route) (r′ .route)
   pub none : (n .kind ≡ 2) ↔ GoalMissing l q
   pub none-settled : GoalMissing l q → n .settled ≡ length l
   pub none-number : GoalMissing l q → n .number ≡ MARK

@@ -1,4 +1,4 @@
--- The second condition of the tender: the answers of the search, claims accepted exactly when true, and the map's round trip.
+-- The second condition of the tender: the answers of both engines, claims accepted exactly when true, and the map's round trip.
 use mathlib.Core.Path.{_≡_}
 use mathlib.Core.Logic.{_↔_}
 use mathlib.Core.Bool.{true}
@@ -34,13 +34,15 @@ use Rattle.claims.specs.Table.{IsLowest, tableLines, tableVerdict, asFault}
 use Rattle.answering.specs.declared.Answer.{Answer}
 use Rattle.answering.specs.declared.AnswerNumbers.{AnswerNumbers}
 use Rattle.answering.specs.Answers.{numbersOf}
-use Rattle.answering.specs.Rooms.{Rooms}
+use Rattle.answering.specs.Rooms.{Rooms, lentLines}
 use Rattle.answering.specs.Question.{Question}
 use Rattle.search.specs.Search.{searchLines, Searched, Called}
+use Rattle.astar.specs.Astar.{Aimed, AimedCall}
 use Rattle.recordlayout.specs.Record.{questionIn, waysIn, endsInZeros, recordFor}
 use Rattle.mapuse.specs.Use.{IsUsed}
 use Rattle.desk.specs.Desk.{withWays, wholeRecords, recordAt, IsAnswered}
 use Rattle.tender.specs.SearchTable.{SameLengths, TableHolds}
+use Rattle.tender.specs.AstarTable.{AstarAnswers}
 
 -- an answer record: it is the record of numbers for which 01's table holds, in rooms of the lengths of r
 pub record RecordHolds (f : Floor) (m : List ℕ) (q : Question) (r : Rooms) (answer : List ℕ) : Type 0 where
@@ -63,6 +65,11 @@ pub record SecondCondition : Type 0 where
       → (i : ℕ) → i < wholeRecords bytes →
       let q = recordAt i bytes in
       endsInZeros q ≡ true → screen (searchLines (withWays f (waysIn q)) m (questionIn q) r) ≡ Passed → RecordHolds (withWays f (waysIn q)) m (questionIn q) r (recordAt i bytes′)
+  -- A* in R-4's words; TwoEngines.antt says that it answers as the search does with the limit at the cell count
+  pub astar : (f : Floor) (m : List ℕ) (start goal : ℕ) (r : Rooms) (a : Answer) (r′ : Rooms) → Aimed f m start goal r a r′
+      → screen (lentLines f m start goal r) ≡ Passed → AstarAnswers f m start goal (numbersOf a) r r′
+  pub astar-call : (f : Floor) (m : List ℕ) (start goal : ℕ) (r : Rooms) (n : AnswerNumbers) (r′ : Rooms) → AimedCall f m start goal r n r′
+      → screen (lentLines f m start goal r) ≡ Passed → AstarAnswers f m start goal n r r′
   -- "Claims not refused are accepted exactly when true": a route, a cost table, and a "none" by the table
   pub route-claim : (f : Floor) (m : List ℕ) (c : Claim) (v : RouteVerdict) → route.numbersOf v ≡ routeVerdict f m c → screen (claimLines f m c) ≡ Passed
       → (k : ℕ) → (v ≡ Holds k)

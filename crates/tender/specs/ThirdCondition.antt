@@ -1,4 +1,4 @@
--- The third condition of the tender: how a route's true length compares, for the route and the floor that the search returns.
+-- The third condition of the tender: how a route's true length compares, for the route and the floor that a search returns.
 use mathlib.Core.Path.{_≡_}
 use mathlib.Core.List.{List}
 use Prim.Native.Nat.{ℕ, _*_, _<_}
@@ -14,34 +14,41 @@ use Rattle.answering.specs.Answers.{numbersOf}
 use Rattle.answering.specs.Rooms.{Rooms}
 use Rattle.answering.specs.Question.{Question}
 use Rattle.search.specs.Search.{Searched, Called}
+use Rattle.astar.specs.Astar.{Aimed, AimedCall}
 use Rattle.recordlayout.specs.Record.{questionIn, waysIn, recordFor}
 use Rattle.desk.specs.Desk.{withWays, wholeRecords, recordAt, IsAnswered}
 
 -- the square of a route's true length, times k
-abbrev pub timesSquare : ℕ → Floor → List ℕ → Question → List ℕ → Surd
-timesSquare k f m q ds = times k (squared (lengthOf f m (q .start) ds))
+abbrev pub timesSquare : ℕ → Floor → List ℕ → ℕ → List ℕ → Surd
+timesSquare k f m start ds = times k (squared (lengthOf f m start ds))
 
 -- twice the square of a cost
 abbrev pub twiceSquare : ℕ → Surd
 twiceSquare c = surd (2 * square c) 0
 
--- n are 01's numbers of the answer to question q: kind 1 is found, 3 stopped. The route room begins with the route
-pub record Measured (f : Floor) (m : List ℕ) (q : Question) (n : AnswerNumbers) (room : List ℕ) : Type 0 where
+-- n are 01's numbers of an answer: kind 1 is found, 3 stopped. The route room begins with the route
+pub record Measured (f : Floor) (m : List ℕ) (start goal : ℕ) (n : AnswerNumbers) (room : List ℕ) : Type 0 where
   -- 9800 × its true length² ≤ 9801 × that of any allowed route for the same question
-  pub nearly-shortest : n .kind ≡ 1 → (ds : List ℕ) → Route (graph f m) (q .start) (q .goal) ds
-      → T (atMost (timesSquare 9800 f m q (take (n .length) room)) (timesSquare 9801 f m q ds))
+  pub nearly-shortest : n .kind ≡ 1 → (ds : List ℕ) → Route (graph f m) start goal ds
+      → T (atMost (timesSquare 9800 f m start (take (n .length) room)) (timesSquare 9801 f m start ds))
   -- 2 × its cost² lies between 9800 and 9801 × its own true length²
-  pub cost-above : n .kind ≡ 1 → T (atMost (timesSquare 9800 f m q (take (n .length) room)) (twiceSquare (n .number)))
-  pub cost-below : n .kind ≡ 1 → T (atMost (twiceSquare (n .number)) (timesSquare 9801 f m q (take (n .length) room)))
+  pub cost-above : n .kind ≡ 1 → T (atMost (timesSquare 9800 f m start (take (n .length) room)) (twiceSquare (n .number)))
+  pub cost-below : n .kind ≡ 1 → T (atMost (twiceSquare (n .number)) (timesSquare 9801 f m start (take (n .length) room)))
   -- after a stop, 2 × floor² ≤ 9801 × the true length² of any allowed route to the goal
-  pub floor-below : n .kind ≡ 3 → (ds : List ℕ) → Route (graph f m) (q .start) (q .goal) ds
-      → T (atMost (twiceSquare (n .number)) (timesSquare 9801 f m q ds))
+  pub floor-below : n .kind ≡ 3 → (ds : List ℕ) → Route (graph f m) start goal ds
+      → T (atMost (twiceSquare (n .number)) (timesSquare 9801 f m start ds))
 
 pub record ThirdCondition : Type 0 where
-  pub search : (f : Floor) (m : List ℕ) (q : Question) (r : Rooms) (a : Answer) (r′ : Rooms) → Searched f m q r a r′ → Measured f m q (numbersOf a) (r′ .route)
-  pub call : (f : Floor) (m : List ℕ) (q : Question) (r : Rooms) (n : AnswerNumbers) (r′ : Rooms) → Called f m q r n r′ → Measured f m q n (r′ .route)
+  pub search : (f : Floor) (m : List ℕ) (q : Question) (r : Rooms) (a : Answer) (r′ : Rooms) → Searched f m q r a r′ → Measured f m (q .start) (q .goal) (numbersOf a) (r′ .route)
+  pub call : (f : Floor) (m : List ℕ) (q : Question) (r : Rooms) (n : AnswerNumbers) (r′ : Rooms) → Called f m q r n r′ → Measured f m (q .start) (q .goal) n (r′ .route)
   -- record i of a buffer is the record of such numbers, for the route that its search found
   pub records : (f : Floor) (m bytes : List ℕ) (r : Rooms) (k : ℕ) (bytes′ : List ℕ) (r′ : Rooms) → IsAnswered f m bytes r k bytes′ r′
       → (i : ℕ) → i < wholeRecords bytes
       → (n : AnswerNumbers) × (recordAt i bytes′ ≡ recordFor n)
-      × ((room : List ℕ) × Measured (withWays f (waysIn (recordAt i bytes))) m (questionIn (recordAt i bytes)) n room)
+      × ((room : List ℕ)
+      × Measured (withWays f (waysIn (recordAt i bytes))) m (questionIn (recordAt i bytes) .start) (questionIn (recordAt i bytes) .goal) n room)
+  -- A*, which never stops short (02, R-4)
+  pub astar : (f : Floor) (m : List ℕ) (start goal : ℕ) (r : Rooms) (a : Answer) (r′ : Rooms) → Aimed f m start goal r a r′
+      → Measured f m start goal (numbersOf a) (r′ .route)
+  pub astar-call : (f : Floor) (m : List ℕ) (start goal : ℕ) (r : Rooms) (n : AnswerNumbers) (r′ : Rooms) → AimedCall f m start goal r n r′
+      → Measured f m start goal n (r′ .route)

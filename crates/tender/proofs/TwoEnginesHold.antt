@@ -1,0 +1,91 @@
+-- Two engines, one answer: the right table is one, and its two rows have the same kind, number and route; the limit's line never applies at the cell count.
+use mathlib.Core.Path.{_≡_, refl, sym, _∙_, ap, subst}
+use mathlib.Core.List.{List, [], _∷_}
+use Prim.Native.Nat.{ℕ}
+use native.Mathlib.Omega.{arith}
+use borrow.Author.Tests.{ne-eqb}
+use lib.ListN.{length}
+use Rattle.paths.proofs.Exists.{right-unique}
+use Rattle.settling.specs.Answer.{Kind, Row}
+use Rattle.settling.proofs.AimedPlain.{aimed-kind, aimed-number, aimed-route}
+use Rattle.floor.specs.declared.Floor.{Floor}
+use Rattle.floor.specs.declared.Screen.{Screen}
+use Rattle.floor.specs.declared.Screen.the-variants.{Passed, Refused}
+use Rattle.floor.specs.Place.{cells}
+use Rattle.floor.specs.Step.{graph}
+use Rattle.floor.specs.Estimate.{estimate}
+use Rattle.floor.specs.Refusal.{screen}
+use Rattle.floor.proofs.Laws.{lawful}
+use Rattle.floor.proofs.Screens.{screen-after}
+use Rattle.floor.proofs.Questions.{start-inside}
+use Rattle.answering.specs.declared.Answer.{Answer}
+use Rattle.answering.specs.Answers.{answered, numbersOf}
+use Rattle.answering.specs.Rooms.{Rooms, lentLines}
+use Rattle.answering.proofs.Lending.{asked-well}
+use Rattle.search.specs.Search.{limitLine, searchLines, rowOf, ByTable}
+use Rattle.search.proofs.Promise.{by-table}
+use Rattle.astar.specs.Astar.{AimedTable}
+use Rattle.astar.proofs.Promise.{aimed-by-table}
+use Rattle.tender.specs.TwoEngines.{asPlain, SameAnswer, TwoEngines}
+use Rattle.tender.proofs.Searches.{route-written}
+use Rattle.tender.proofs.AstarTabled.{row, has-passed, starts, ends, astar-written}
+
+refused-alike : (f : Floor) (m : List ℕ) (start goal : ℕ) (r : Rooms) → screen (searchLines f m (asPlain f start goal) r) ≡ screen (lentLines f m start goal r)
+refused-alike f m start goal r = go (screen (lentLines f m start goal r)) refl
+  where
+    go : (s : Screen) → screen (lentLines f m start goal r) ≡ s → screen (searchLines f m (asPlain f start goal) r) ≡ screen (lentLines f m start goal r)
+    go Passed e =
+        let inside = start-inside f m start goal (asked-well f m start goal r e) in
+        screen-after (lentLines f m start goal r) (limitLine (cells f) ∷ []) _ Passed refl e ∙ rw (e, ne-eqb (cells f) 0 (omega (arith, inside)))
+    go (Refused n p) e = screen-after (lentLines f m start goal r) (limitLine (cells f) ∷ []) _ (Refused n p) refl e ∙ sym e
+
+-- rows of the same kind, number and route are told alike
+module _ (v w : Row) (k : v .kind ≡ w .kind) (n : v .number ≡ w .number) (t : v .route ≡ w .route) where
+  told : (k : Kind) → (numbersOf (answered k v) .kind ≡ numbersOf (answered k w) .kind) × (numbersOf (answered k v) .number ≡ numbersOf (answered k w) .number)
+      × (numbersOf (answered k v) .length ≡ numbersOf (answered k w) .length)
+  told Kind.found = (refl, n, ap length t)
+  told Kind.none = (refl, refl, refl)
+  told Kind.stopped = (refl, n, refl)
+
+  alike : {a b : Answer} → a ≡ answered (v .kind) v → b ≡ answered (w .kind) w
+      → (numbersOf a .kind ≡ numbersOf b .kind) × (numbersOf a .number ≡ numbersOf b .number) × (numbersOf a .length ≡ numbersOf b .length)
+  alike e h =
+      rw (e, h)
+      (subst (λ (j : Kind). (numbersOf (answered (v .kind) v) .kind ≡ numbersOf (answered j w) .kind)
+      × (numbersOf (answered (v .kind) v) .number ≡ numbersOf (answered j w) .number)
+      × (numbersOf (answered (v .kind) v) .length ≡ numbersOf (answered j w) .length)) k (told (v .kind)))
+
+module _ {f : Floor} {m : List ℕ} {start goal : ℕ} {r p : Rooms} {a b : Answer} {r′ p′ : Rooms}
+    (x : ByTable f m (asPlain f start goal) r a r′) (c : screen (searchLines f m (asPlain f start goal) r) ≡ Passed)
+    (y : AimedTable f m start goal p b p′) (d : screen (lentLines f m start goal p) ≡ Passed) where
+  table : x .table ≡ y .table
+  table = right-unique (graph f m) start (x .table) (y .table) (x .right) (y .right)
+
+  abbrev plain : Row
+  plain = rowOf f m (asPlain f start goal) (x .table)
+
+  kinds : plain .kind ≡ row y d .kind
+  kinds = rw table (sym (aimed-kind (lawful f m (has-passed y d)) start (starts y d) (y .table) (y .right) goal (ends y d) (estimate f goal)))
+
+  numbers : plain .number ≡ row y d .number
+  numbers = rw table (sym (aimed-number (lawful f m (has-passed y d)) start (starts y d) (y .table) (y .right) goal (ends y d) (estimate f goal)))
+
+  routes : plain .route ≡ row y d .route
+  routes = rw table (sym (aimed-route (lawful f m (has-passed y d)) start (starts y d) (y .table) (y .right) goal (ends y d) (estimate f goal)))
+
+  same : SameAnswer (numbersOf a) (r′ .route) (numbersOf b) (p′ .route)
+  same =
+      let z = alike plain (row y d) kinds numbers routes (x .answer) (y .answer) in
+      record {
+        kind = z .0;
+        number = z .1;
+        length = z .2;
+        route = route-written x c ∙ rw (z .2, routes) (sym (astar-written y d));
+      }
+
+pub two-engines : TwoEngines
+two-engines = record {
+  refused = refused-alike;
+  same = λ f m start goal r a r′ x c p b p′ y d. same (by-table x c) c (aimed-by-table y d) d;
+  same-call = λ f m start goal r a r′ x c p b p′ y d. rw (x .numbers, y .numbers) (same (by-table (x .searched) c) c (aimed-by-table (y .aimed) d) d);
+}
