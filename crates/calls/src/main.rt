@@ -26,6 +26,7 @@
 //                              room, and question and answer are put at the front of the map room
 //   13 fradnumber_write_entry  kind (0 refused, 1 written), refusal, place, length; question and answer are at the front of the map room, the directions
 //                              are the route room, and the entry goes to the text room
+//   14 fradnumber_astar        as fradnumber_search, but never stopped; the limit is not looked at
 //
 // A call from C hands on what the entry of its library answers, so that it stands here for both.
 //
@@ -35,6 +36,7 @@ mod wire; // wire.rt: numbers in bytes, rooms, replies
 
 ghost use Prim.Native.Nat.{_≤_};
 use answering::AnswerNumbers;
+use astar::rooms::fradnumber_astar;
 use claims::RouteVerdict;
 use claims::routes::check_route;
 use claims::routes::fradnumber_check_route;
@@ -323,6 +325,7 @@ fn ask(
         11 => of_halves(keep_tail(text, long(start), long(goal)) as u64),
         12 => read_entry(text, route, map),
         13 => write_entry(map, route, text),
+        14 => of_six(fradnumber_astar(w, h, ways, map, start, goal, costs, work, route)),
         _ => [NO_ENTRY, 0, 0, 0, 0, 0],
     }
 }

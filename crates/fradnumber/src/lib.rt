@@ -9,6 +9,7 @@ ghost use Rattle.claims.specs.Table.{tableVerdict, asFault};
 ghost use Rattle.answering.specs.Rooms.{rooms};
 ghost use Rattle.answering.specs.Question.{question};
 ghost use Rattle.search.specs.Search.{Called};
+ghost use Rattle.astar.specs.Astar.{AimedCall};
 ghost use Rattle.logentries.specs.Entry.{entryOf};
 ghost use Rattle.routelog.specs.Calls as log;
 use answering::AnswerNumbers;
@@ -75,6 +76,23 @@ pub extern "C" fn fradnumber_search(
         work,
         route,
     )
+}
+
+#[no_mangle]
+pub extern "C" fn fradnumber_astar(
+    width: u32,
+    height: u32,
+    ways: u32,
+    map: &[u8],
+    start: u32,
+    goal: u32,
+    costs: &mut [u32],
+    work: &mut [u32],
+    route: &mut [u8],
+) -> AnswerNumbers
+    ensures { λ r. ⌜ AimedCall (floorOf width height ways) (now (map .entry)) start goal (rooms (now (costs .entry)) (now (work .entry)) (now (route .entry))) r (rooms (now (costs .exit)) (now (work .exit)) (now (route .exit))) ⌝ }
+{
+    astar::rooms::fradnumber_astar(width, height, ways, map, start, goal, costs, work, route)
 }
 
 #[no_mangle]
