@@ -11,7 +11,6 @@ use Rattle.settling.proofs.AimedPlain.{aimed-kind, aimed-number, aimed-route}
 use Rattle.floor.specs.declared.Floor.{Floor}
 use Rattle.floor.specs.declared.Screen.{Screen}
 use Rattle.floor.specs.declared.Screen.the-variants.{Passed, Refused}
-use Rattle.floor.specs.Place.{cells}
 use Rattle.floor.specs.Step.{graph}
 use Rattle.floor.specs.Estimate.{estimate}
 use Rattle.floor.specs.Refusal.{screen}
@@ -36,8 +35,8 @@ refused-alike f m start goal r = go (screen (lentLines f m start goal r)) refl
     go : (s : Screen) → screen (lentLines f m start goal r) ≡ s → screen (searchLines f m (asPlain f start goal) r) ≡ screen (lentLines f m start goal r)
     go Passed e =
         let inside = start-inside f m start goal (asked-well f m start goal r e) in
-        screen-after (lentLines f m start goal r) (limitLine (cells f) ∷ []) _ Passed refl e ∙ rw (e, ne-eqb (cells f) 0 (omega (arith, inside)))
-    go (Refused n p) e = screen-after (lentLines f m start goal r) (limitLine (cells f) ∷ []) _ (Refused n p) refl e ∙ sym e
+        screen-after (lentLines f m start goal r) (limitLine (asPlain f start goal .limit) ∷ []) _ Passed refl e ∙ rw (e, ne-eqb (asPlain f start goal .limit) 0 (omega (arith, inside)))
+    go (Refused n p) e = screen-after (lentLines f m start goal r) (limitLine (asPlain f start goal .limit) ∷ []) _ (Refused n p) refl e ∙ sym e
 
 -- rows of the same kind, number and route are told alike
 module _ (v w : Row) (k : v .kind ≡ w .kind) (n : v .number ≡ w .number) (t : v .route ≡ w .route) where
