@@ -22,7 +22,7 @@ try:
     import re
     import sys
 
-    from asking import questions, reading, replaying, words
+    from asking import comparing, questions, reading, replaying, words
     from asking.names import visible
     from asking.output import Output, complain
     from asking.programs import LARGEST, ROOT, Calls, Trouble, clean_up, read_text
@@ -48,6 +48,14 @@ one question
   floor: no route to the goal costs less; refused, with the reason. The picture shows the floor, the settled cells by
   cost, and the route. It needs 6 columns more than the map is wide. For negative numbers write --from=-1,5.
   --limit is at least 1: with 0 nothing can be settled, and it is refused. Without it the whole map is searched.
+
+two engines
+  ./run MAP --from x,y --to x,y --engine astar
+  ./run MAP --from x,y --to x,y --engine both
+  A* gives the kind, the cost and the route that the plain search gives, and settles no cell that the plain search does not,
+  often far fewer: those whose least cost plus estimate is at most the goal's least cost. It takes no --limit, and its
+  answers go to no --log. The picture shows the cells that A* settled. With both, each engine's answer and count are told,
+  and whether kind, cost and route are the same. The program planner has the plain search alone.
 
 a claimed route
   ./run MAP --from x,y --to x,y --check ROUTE --cost N
@@ -84,11 +92,12 @@ examples
   ./run examples/halls/open.map --from 0,0 --to 63,63 --limit 1000 --svg open.svg
   ./run examples/halls/maze.map --replay examples/halls/maze.questions --answers examples/halls/maze.answers
   ./run examples/halls/furnace.map --read-log examples/halls/furnace.log
+  ./run examples/halls/bay.map --from 1,10 --to 58,11 --engine both
 
 exit status
   0  answered; a claim holds; in a replay, no given answer differs or is missing; a log is whole, and nothing in it differs
   1  a given answer differs or is missing, a claim is wrong, or a question, a claim or the map is refused; a log is torn, or
-     an entry is wrong or differs; an answer is not logged
+     an entry is wrong or differs; an answer is not logged; the two engines differ
   2  wrong usage; a file or a program is missing or fails; not all could be written, or a log cannot be appended to;
      stopped by Ctrl-C
 """
@@ -154,6 +163,7 @@ def parser():
     made.add_argument("--to", dest="goal", metavar="x,y", type=cell_argument, help="where it is to go")
     made.add_argument("--ways", type=int, choices=(4, 8), help="directions of a step (8)")
     made.add_argument("--limit", metavar="N", type=limit_argument, help="settle at most N cells, N at least 1 (no limit)")
+    made.add_argument("--engine", choices=words.ENGINES, help="who searches (plain); both compares the two")
     made.add_argument("--check", metavar="ROUTE", type=route_argument, help="judge a claimed route, with --cost")
     made.add_argument("--cost", metavar="N", type=number_argument, help="the cost that is claimed for it")
     made.add_argument("--costs", action="store_true", help="all least costs from --from, as CSV")
@@ -178,11 +188,16 @@ USES = {
     "--write-questions": ((), ("start", "goal", "ways", "limit", "csv")),
     "--check": (("start", "goal", "cost"), ("ways", "svg")),
     "--costs": (("start",), ("ways",)),
-    "a question": (("start", "goal"), ("ways", "limit", "svg", "log")),
+    "a question": (("start", "goal"), ("ways", "limit", "engine", "svg", "log")),
 }
 WORDS = {
     "start": "--from x,y", "goal": "--to x,y", "ways": "--ways", "limit": "--limit", "cost": "--cost N", "svg": "--svg", "answers": "--answers",
-    "csv": "--csv CSV", "log": "--log",
+    "csv": "--csv CSV", "log": "--log", "engine": "--engine",
+}
+# What does not go with a question to A*, and why.
+NOT_FOR_ASTAR = {
+    "limit": "A* takes no limit; leave out --limit, or ask the plain search",
+    "log": "a log is read by asking again, and its records have the plain search's settled count",
 }
 
 
@@ -197,6 +212,13 @@ def all_wanted(given):
 
 def wanted(given):
     return (all_wanted(given) or ["a question"])[0]
+
+
+def check_engine(made, given):
+    """Words that go with the plain search alone."""
+    for name, why in NOT_FOR_ASTAR.items():
+        if given.engine in (words.ASTAR, words.BOTH) and getattr(given, name) is not None:
+            made.error(f"--engine {given.engine} does not go with {WORDS[name]}: {why}")
 
 
 def check_usage(made, given):
@@ -215,6 +237,7 @@ def check_usage(made, given):
     others += all_wanted(given)[1:]
     if others:
         made.error(f"{what} does not go with {' and '.join(others)}")
+    check_engine(made, given)
     if given.svg == "-" and given.json:
         made.error("--svg - has standard output to itself: leave out --json")
     if given.log == "-":
@@ -224,6 +247,7 @@ def check_usage(made, given):
 def with_defaults(given):
     given.ways = 8 if given.ways is None else given.ways
     given.limit = LARGEST if given.limit is None else given.limit
+    given.engine = given.engine or words.PLAIN
     return given
 
 
@@ -249,7 +273,8 @@ def answer(given):
             return replaying.replay(given, calls, floor, text, out)
         if what == "--write-questions":
             return replaying.write_questions(with_defaults(given), floor, out)
-        act = {"--check": questions.check, "--costs": questions.costs_table, "a question": questions.ask}[what]
+        one = comparing.ask if given.engine == words.BOTH else questions.ask
+        act = {"--check": questions.check, "--costs": questions.costs_table, "a question": one}[what]
         told = act(with_defaults(given), calls, floor, text)
     return questions.tell(given, told, out, in_colour(given.color, out.stream))
 

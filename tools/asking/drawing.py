@@ -178,7 +178,7 @@ class Drawing:
         shades = 5 if self.view.dearest else 1
         for place in range(shades):
             self.add(f'<circle class="key" cx="{LEFT + 7 + 16 * place}" cy="{y - 4}" r="6" fill="{shade(place / 4)}"/>')
-        words = f"settled, from cost 0 to cost {self.view.dearest}" if self.view.dearest else "settled, at cost 0"
+        words = self.view.settled_name + (f", from cost 0 to cost {self.view.dearest}" if self.view.dearest else ", at cost 0")
         self.add(f'<text x="{LEFT + 12 + 16 * shades}" y="{y}" font-size="12">{words}</text>')
 
     def add_key(self):

@@ -31,7 +31,7 @@ REFUSED, FOUND, NONE, STOPPED = range(4)
 HOLDS, FAULT = 1, 2  # kinds of a route claim's answer, beside REFUSED
 RIGHT = 1  # of a table claim's
 EMPTY = 2  # of what the rest of a log reads as
-SEARCH, ROUTE_CLAIM, TABLE_CLAIM, READ_MAP, ANSWER_RECORDS, READ_ENTRY, WRITE_ENTRY = 1, 2, 3, 4, 9, 12, 13
+SEARCH, ROUTE_CLAIM, TABLE_CLAIM, READ_MAP, ANSWER_RECORDS, READ_ENTRY, WRITE_ENTRY, ASTAR = 1, 2, 3, 4, 9, 12, 13, 14
 
 # The eight directions: name, dx, dy.
 DIRECTIONS = (("N", 0, -1), ("NE", 1, -1), ("E", 1, 0), ("SE", 1, 1), ("S", 0, 1), ("SW", -1, 1), ("W", -1, 0), ("NW", -1, -1))
@@ -228,10 +228,17 @@ class Calls:
 
     def search(self, floor, asked):
         """The answer to a question, as the planner would give it, and the rooms afterwards."""
+        return self.routed(SEARCH, floor, asked)
+
+    def astar(self, floor, asked):
+        """The answer of A*, which does not look at the limit, and the rooms afterwards."""
+        return self.routed(ASTAR, floor, asked)
+
+    def routed(self, engine, floor, asked):
         size = floor.width * floor.height
         shape = (floor.width, floor.height, asked.ways)
         numbers, (_, costs, _, route, _) = self.call(
-            SEARCH, (size, floor.cells), shape, asked.start, asked.goal, asked.limit, costs=(size, b""), work=2 * size, route=(size, b"")
+            engine, (size, floor.cells), shape, asked.start, asked.goal, asked.limit, costs=(size, b""), work=2 * size, route=(size, b"")
         )
         kind, refusal, _, settled, number, length = numbers
         answer = Answer(kind, refusal, b"\0\0", settled, number, length)

@@ -16,7 +16,7 @@ from asking.view import View
 
 ANSWERED, DIFFERENT = 0, 1
 
-# All about one question. `holds`: the check of claimed routes takes the route that was found. `by`: who answered.
+# All about one question to one engine. `holds`: the check of claimed routes takes the route that was found. `by`: who answered.
 Outcome = namedtuple("Outcome", "floor question answer rooms holds by")
 # What is told: lines, the same as an object, the picture (None: there is none), the lines over it in a file, the exit status, and trouble that has come up
 # after the answer and is raised once that is told.
@@ -24,6 +24,7 @@ Told = namedtuple("Told", "lines object view headline status trouble", defaults=
 
 TWO_BUILDS = "planner and calls answer differently, so they are not of one build: run 'rt check planner calls'"
 BY_BOTH, BY_LIBRARY = "the program and the library, alike", f"the library; the program takes sides up to {PROGRAM_SIDE}"
+BY_ASTAR = "the library's A*; the program has the plain search alone"
 
 
 def cell_number(floor, cell):
@@ -47,9 +48,16 @@ def place_words(floor, cell):
     return f"({cell[0]},{cell[1]}){off}"
 
 
-def asked_words(floor, given):
+def how_words(given):
+    """How many cells may be settled, and by which engine, if not by the plain search alone."""
     limit = "no limit" if given.limit == LARGEST else f"limit {given.limit}"
-    return f"from {place_words(floor, given.start)} to {place_words(floor, given.goal)}, {given.ways} ways, {limit}"
+    return {words.ASTAR: "by A*", words.BOTH: f"by A*, and by the plain search with {limit}"}.get(given.engine, limit)
+
+
+def subject_of(given, floor):
+    """The line over an answer: the map, and what was asked."""
+    ends = f"from {place_words(floor, given.start)} to {place_words(floor, given.goal)}"
+    return f"{sizes(given.map, floor)}; {ends}, {given.ways} ways, {how_words(given)}"
 
 
 def map_refused(given, text, refusal):
@@ -83,9 +91,22 @@ def answer_object(answer):
 # ---- a question
 
 
-def search(calls, floor, text, given):
-    """The outcome of the question: of the library, and of the program too where it takes the map."""
-    asked = question(cell_number(floor, given.start), cell_number(floor, given.goal), given.limit, given.ways)
+def question_in(given, floor):
+    """The question that the words ask."""
+    return question(cell_number(floor, given.start), cell_number(floor, given.goal), given.limit, given.ways)
+
+
+def checked(calls, floor, asked, answer, rooms, by):
+    """An answer with what the check of claimed routes says of the route that was found."""
+    holds = False
+    if answer.kind == FOUND:
+        verdict = calls.check_route(floor, asked, answer.number, rooms.route)
+        holds = verdict.kind == HOLDS and verdict.cost == answer.number
+    return Outcome(floor, asked, answer, rooms, holds, by)
+
+
+def search(calls, floor, text, asked):
+    """The outcome of the plain search: of the library, and of the program too where it takes the map."""
     answer, rooms = calls.search(floor, asked)
     by = BY_LIBRARY
     if is_for_program(floor, text):
@@ -93,11 +114,13 @@ def search(calls, floor, text, given):
         with Planner(text) as planner:
             if answer_of(planner.answers(record_of(asked))) != answer:
                 raise Trouble(TWO_BUILDS)
-    holds = False
-    if answer.kind == FOUND:
-        verdict = calls.check_route(floor, asked, answer.number, rooms.route)
-        holds = verdict.kind == HOLDS and verdict.cost == answer.number
-    return Outcome(floor, asked, answer, rooms, holds, by)
+    return checked(calls, floor, asked, answer, rooms, by)
+
+
+def aimed(calls, floor, asked):
+    """The outcome of A*: of the library alone, since the program answers by the plain search."""
+    answer, rooms = calls.astar(floor, asked)
+    return checked(calls, floor, asked, answer, rooms, BY_ASTAR)
 
 
 def first_route(calls, floor, asked, answered):
@@ -131,10 +154,29 @@ def more_about(outcome, root):
     return [line] if line else []
 
 
-def outcome_object(given, outcome):
-    floor, answer = outcome.floor, outcome.answer
+def route_lines(outcome):
+    """The route that was found, as far as it has a step."""
+    if not outcome.rooms or not outcome.rooms.route:
+        return []
+    return words.listed("route:", words.directions(outcome.rooms.route), shutil.get_terminal_size().columns)
+
+
+def question_object(given, floor):
+    """What was asked; the engine is named where it is not the plain search."""
     told = {**about_map(given.map, floor), "from": list(given.start), "to": list(given.goal), "ways": given.ways}
-    told |= {"limit": None if given.limit == LARGEST else given.limit, **answer_object(answer)}
+    return told if given.engine == words.PLAIN else {**told, "engine": given.engine}
+
+
+def limit_object(outcome):
+    """The limit; A* has none."""
+    limit = outcome.question.limit
+    return {} if outcome.by == BY_ASTAR else {"limit": None if limit == LARGEST else limit}
+
+
+def outcome_object(outcome):
+    """What one engine answers."""
+    floor, answer = outcome.floor, outcome.answer
+    told = {**limit_object(outcome), **answer_object(answer)}
     if answer.kind == FOUND:
         straight, diagonal = words.sums(floor, outcome.question.start, outcome.rooms.route)
         told |= {"route": list(outcome.rooms.route), "p": straight, "q": diagonal, "true_length": straight + diagonal * math.sqrt(2)}
@@ -160,22 +202,31 @@ def logged(told, log, outcome):
     return told._replace(lines=lines, object={**told.object, "logged": {"entry": log.count, "byte": begin, "bytes": len(entry)}})
 
 
+def is_good(outcome):
+    """Whether a question is answered, and a route that was found holds."""
+    return outcome.holds if outcome.answer.kind == FOUND else outcome.answer.kind != REFUSED
+
+
+def view_of(outcome):
+    """The floor with what the engine has settled, and the route."""
+    by = "A*" if outcome.by == BY_ASTAR else None
+    if outcome.rooms is None:
+        return View(outcome.floor, outcome.question)
+    return View(outcome.floor, outcome.question, outcome.rooms.costs, outcome.rooms.route, settled_by=by)
+
+
 def ask(given, calls, floor, text):
+    """One question to one engine."""
     log = None if given.log is None else Log(calls, given.log)
     if log and given.svg != "-":
         log.must_not_be("the picture", given.svg)
-    outcome = search(calls, floor, text, given)
-    root = terminal.marks_for(sys.stdout).root
-    rooms = outcome.rooms
-    view = View(floor, outcome.question, rooms.costs if rooms else None, rooms.route if rooms else b"")
-    subject = f"{sizes(given.map, floor)}; {asked_words(floor, given)}"
-    lines = [subject, words.answer(outcome.answer), *more_about(outcome, root)]
-    if view.route:
-        lines += words.listed("route:", words.directions(view.route), shutil.get_terminal_size().columns)
-    lines.append(f"answered by {outcome.by}")
-    good = outcome.holds if outcome.answer.kind == FOUND else outcome.answer.kind != REFUSED
+    asked = question_in(given, floor)
+    outcome = aimed(calls, floor, asked) if given.engine == words.ASTAR else search(calls, floor, text, asked)
+    subject, root = subject_of(given, floor), terminal.marks_for(sys.stdout).root
+    lines = [subject, words.answer(outcome.answer), *more_about(outcome, root), *route_lines(outcome), f"answered by {outcome.by}"]
     headline = [words.answer(outcome.answer), *more_about(outcome, "√2")[:1], subject]
-    told = Told(lines, outcome_object(given, outcome), view, headline, ANSWERED if good else DIFFERENT)
+    told = {**question_object(given, floor), **outcome_object(outcome)}
+    told = Told(lines, told, view_of(outcome), headline, ANSWERED if is_good(outcome) else DIFFERENT)
     return told if log is None else logged(told, log, outcome)
 
 

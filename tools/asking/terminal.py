@@ -156,7 +156,7 @@ def legend(view, marks, laid, colour):
         sample(marks.dots[band], (DOTS[band], FLOOR[1])) + (f" {low} to {high}" if low != high else f" {low}") for band, (low, high) in bands(view)
     ]
     lines = ["   ".join(part) for part in (marked, floor) if part]
-    lines += ["settled, by cost: " + "   ".join(dots)] if dots else []
+    lines += [f"{view.settled_name}, by cost: " + "   ".join(dots)] if dots else []
     settled = {cell.mark for row in view.rows() for cell in row if cell.mark and cell.cost is not None}
     lines += ["settled too: " + ", ".join(name for mark, name in SETTLED_TOO.items() if mark in settled)] if settled else []
     lines += [laid] if laid and view.weights() else []

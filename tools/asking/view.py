@@ -10,13 +10,15 @@ Cell = namedtuple("Cell", "number x y weight cost mark direction")
 
 
 class View:
-    def __init__(self, floor, question, costs=None, route=b"", fault=None):
-        """`route` are steps that can be taken on the floor; `fault` is the cell where a claimed route goes wrong."""
+    def __init__(self, floor, question, costs=None, route=b"", fault=None, settled_by=None):
+        """`route` are steps that can be taken on the floor; `fault` is the cell where a claimed route goes wrong; `settled_by` names the engine that has
+        left the costs, where that is not the plain search."""
         size = floor.width * floor.height
         self.floor = floor
         self.start = question.start
         self.goal = question.goal
         self.fault = fault
+        self.settled_name = f"settled by {settled_by}" if settled_by else "settled"
         self.costs = costs or (MARK,) * size
         self.route = route
         self.route_cells = cells_of(floor, self.start, route) if route else []

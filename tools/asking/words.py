@@ -42,6 +42,8 @@ NUMBERS = {
     64: "the room is shorter than the route or the entry",
 }
 KINDS = {REFUSED: "refused", FOUND: "found", NONE: "none", STOPPED: "stopped"}
+# The engines that can be asked, by the names of the command line.
+ENGINES = PLAIN, ASTAR, BOTH = "plain", "astar", "both"
 
 # What to do about a limit that was left empty or sent as 0.
 ZERO_LIMIT = 15
