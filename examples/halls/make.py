@@ -120,6 +120,20 @@ def open_hall():
     return rows
 
 
+def bay():
+    """A long bay, level and swept empty: nothing stands between its gates."""
+    return walled(60, 22)
+
+
+def racks():
+    """A mould store: racks from wall to wall, each with a gap one cart wide, by turns at the east and at the west end."""
+    rows = walled(48, 19)
+    for place, y in enumerate(range(3, 18, 3)):
+        fill(rows, 1, y, 46, y, 0)
+        rows[y][1 if place % 2 else 46] = 1
+    return rows
+
+
 def row():
     """The row of the furnace hall alone: a level cell, then forty warm ones."""
     return [[1] + [2] * 40]
@@ -183,6 +197,28 @@ def open_questions(rows):
     ]
 
 
+def bay_questions(rows):
+    west, east = (1, 10), (58, 11)
+    return [
+        asked(rows, west, east),  # from gate to gate
+        asked(rows, east, west),
+        asked(rows, west, east, ways=4),
+        asked(rows, west, east, limit=114),  # as many cells as A* settles are too few here
+        asked(rows, (1, 1), (58, 20)),
+    ]
+
+
+def racks_questions(rows):
+    first, last = (1, 1), (1, 17)
+    return [
+        asked(rows, first, last),  # near by as the crow flies, and all aisles apart
+        asked(rows, last, first),
+        asked(rows, first, last, ways=4),
+        asked(rows, first, last, limit=500),
+        asked(rows, (24, 1), (24, 17)),
+    ]
+
+
 def row_questions(rows):
     return [asked(rows, (0, 0), (40, 0)), asked(rows, (40, 0), (0, 0))]
 
@@ -192,6 +228,8 @@ HALLS = (
     ("maze", maze, maze_questions),
     ("open", open_hall, open_questions),
     ("row", row, row_questions),
+    ("bay", bay, bay_questions),
+    ("racks", racks, racks_questions),
 )
 
 
