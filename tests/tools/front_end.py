@@ -10,13 +10,14 @@ import time
 from concurrent.futures import ThreadPoolExecutor
 
 import answers
+import engines
 import logs
 import pictures
 import replays
 import troubles
 from common import wrong
 
-TESTS = {name: value for module in (answers, logs, pictures, replays, troubles) for name, value in vars(module).items() if name.startswith("test_")}
+TESTS = {name: value for module in (answers, engines, logs, pictures, replays, troubles) for name, value in vars(module).items() if name.startswith("test_")}
 
 
 def run_test(name):

@@ -22,8 +22,9 @@ Due = namedtuple("Due", "mark weight cost")
 # ---- what is due
 
 
-def floor_due(rows, start, goal, ways, limit=None, route=None, fault=None, settled=True):
-    """What each cell must show, from the map and a search that shares nothing with the front end; `route` stands for that of a claim."""
+def floor_due(rows, start, goal, ways, limit=None, route=None, fault=None, settled=True, astar=False):
+    """What each cell must show, from the map and a search that shares nothing with the front end; `route` stands for that of a claim. With `astar` the
+    settled cells are those of A*."""
     width = len(rows[0])
     costs = reference.least_costs(rows, ways, start) if settled else {}
     listed = sorted(costs, key=lambda cell: (costs[cell], cell))
@@ -32,7 +33,7 @@ def floor_due(rows, start, goal, ways, limit=None, route=None, fault=None, settl
     if route is None:
         route = reference.first_route(rows, ways, costs, start, goal) if found else []
     listed = listed[: listed.index(goal) + 1] if found else listed[:most]
-    costs = {cell: costs[cell] for cell in listed}
+    costs = {cell: costs[cell] for cell in (reference.settled_by_astar(rows, ways, costs, goal) if astar else listed)}
     dearest = max(costs.values(), default=0)
     leaving, cell = {}, start
     for direction in route:
@@ -135,7 +136,7 @@ def legend_due(cells, due, layout, arrows, dots, blocked):
         costs = [each.cost for each in due.values() if each.mark == ("dot", band)]
         if costs:
             bands.append(f"{dots[band]} {min(costs)}" + (f" to {max(costs)}" if min(costs) != max(costs) else ""))
-    lines += ["settled, by cost: " + "   ".join(bands)] if bands else []
+    lines += [f"settled{cells['by']}, by cost: " + "   ".join(bands)] if bands else []
     marks = {each.mark if isinstance(each.mark, str) else "arrow" for each in due.values() if each.cost is not None and each.mark and each.mark[0] != "dot"}
     too = {"both": "start and goal", "start": "the start", "goal": "the goal", "arrow": "the cells of the route"}
     lines += ["settled too: " + ", ".join(words for mark, words in too.items() if mark in marks)] if marks else []
@@ -174,8 +175,8 @@ def colours_hold(what, cells, legend, due, layout, out):
     expect(f"{what}: one shade for each weight", len(shades) == len(grounds) == len(set(shades)), f"{grounds}\n{out}")
 
 
-def expect_picture(what, out, rows, due, start, goal, layout, colour=False, plain=False):
-    """The picture in what a run printed shows what is due, cell by cell, and its legend says so."""
+def expect_picture(what, out, rows, due, start, goal, layout, colour=False, plain=False, by=""):
+    """The picture in what a run printed shows what is due, cell by cell, and its legend says so; `by` is what it says of an engine."""
     width, height = len(rows[0]), len(rows)
     read = picture_in(out)
     if read is None:
@@ -194,7 +195,7 @@ def expect_picture(what, out, rows, due, start, goal, layout, colour=False, plai
             return
     ends = {start: ", at the start", goal: ", at the goal"} if start != goal else {start: ", at the start and goal"}
     lines = ["".join(shown.character for shown in line) for line in legend]
-    wanted = legend_due({"ends": ends}, due, found, arrows, dots, blocked)
+    wanted = legend_due({"ends": ends, "by": by}, due, found, arrows, dots, blocked)
     # what comes after the legend is not part of the picture
     expect(f"{what}: the legend", lines[: len(wanted)] == wanted and not any(line.startswith(" " * 5) for line in lines[len(wanted) :]), f"due {wanted}\n{out}")
     if colour:
@@ -412,8 +413,9 @@ def test_svg(folder):
 
 
 def test_stored_picture(folder):
-    """The picture that README.md shows is what the front end draws."""
-    drawn = Path(folder, "furnace.svg")
-    expect_run([HALLS / "furnace.map", "--from", "3,12", "--to", "43,12", "--quiet", "--svg", drawn], 0, ["the picture is in"])
-    expect("examples/halls/furnace.svg", drawn.read_bytes() == (HALLS / "furnace.svg").read_bytes())
-    print("tools: the picture of README.md")
+    """The pictures that README.md and examples/halls/README.md show are what the front end draws."""
+    for name, words in (("furnace", ["--from", "3,12", "--to", "43,12"]), ("bay", ["--from", "1,10", "--to", "58,11", "--engine", "both"])):
+        drawn = Path(folder, f"{name}.svg")
+        expect_run([HALLS / f"{name}.map", *words, "--quiet", "--svg", drawn], 0, ["the picture is in"])
+        expect(f"examples/halls/{name}.svg", drawn.read_bytes() == (HALLS / f"{name}.svg").read_bytes())
+    print("tools: the pictures of the pages")

@@ -191,22 +191,22 @@ def samples(page):
 
 
 def test_samples(folder):
-    """What README.md and examples/halls/README.md show is what the commands print, whole or cut with a visible mark."""
+    """What README.md, docs/MANUAL.md and examples/halls/README.md show is what the commands print, whole or cut with a visible mark."""
     count = 0
-    for page in (ROOT / "README.md", HALLS / "README.md"):
+    for page in (ROOT / "README.md", ROOT / "docs" / "MANUAL.md", HALLS / "README.md"):
         for words, shown in samples(page.read_text(encoding="utf-8")):
             words = [str(ROOT / word) if word.startswith("examples/") else os.path.join(folder, word) if word.endswith(".svg") else word for word in words]
             _, out, _ = run(words)
             pattern = "".join("(?:.*\n)*?" if line.strip() in ("..", "...") else re.escape(line.replace(" ...", "")) + "\n" for line in shown)
             expect(f"{page.name}: {' '.join(words)}", re.fullmatch(pattern, out.replace(folder + os.sep, "")), f"shown\n{chr(10).join(shown)}\nprinted\n{out}")
             count += 1
-    expect("there are samples", count >= 2)
+    expect("there are samples", count >= 6)
     print(f"tools: {count} samples of the pages are what the commands print")
 
 
 def test_run(folder):
     command = [str(ROOT / "run")]
-    expect_run([], 0, ["found at cost 11130", "2 given answers differ", "found at cost 6510", "18 questions answered; 0 given answers differ"], command=command, cwd=folder)
+    expect_run([], 0, ["found at cost 11130", "2 given answers differ", "found at cost 6510", "A* and the plain search have the same kind", "18 questions answered; 0 given answers differ"], command=command, cwd=folder)
     path = written(folder, "mine.map", text_of(".@./..."))
     expect_run([path.name, "--from", "0,0", "--to", "2,0", "--quiet"], 0, ["found at cost 560"], command=command, cwd=folder)
     expect_run(["no.map", "--from", "0,0", "--to", "2,0"], 2, [], ["no.map cannot be opened"], command=command, cwd=folder)
