@@ -8,7 +8,6 @@ import shutil
 import stat
 import struct
 import subprocess
-import tempfile
 from collections import namedtuple
 from pathlib import Path
 
@@ -150,9 +149,17 @@ def exchange(process, sent, due):
 FOLDERS = []
 
 
+def temporary_place():
+    """Where folders for maps go. Python's own choice would write a file to try each place, and that stays if Ctrl-C comes just then."""
+    for place in (os.environ.get("TMPDIR"), "/tmp", "/var/tmp"):
+        if place and os.path.isdir(place) and os.access(place, os.W_OK | os.X_OK):
+            return place
+    return os.getcwd()
+
+
 def new_folder():
     """A folder for a map. It is noted before it is made, so that it is found again whenever Ctrl-C comes."""
-    FOLDERS.append(os.path.join(tempfile.gettempdir(), f"fradnumber-{os.getpid()}-{secrets.token_hex(8)}"))
+    FOLDERS.append(os.path.join(temporary_place(), f"fradnumber-{os.getpid()}-{secrets.token_hex(8)}"))
     os.mkdir(FOLDERS[-1], 0o700)
     return FOLDERS[-1]
 
