@@ -24,7 +24,7 @@ fn kept_cost(aim: Aim, top: u32, cost: u32, cell: usize) -> u32
     if top == MARK {
         return cost;
     }
-    let estimate = floor::estimates::estimate(aim.floor, aim.place, cell);
+    let estimate = estimates::estimate(aim.floor, aim.place, cell);
     if (cost as u64) + estimate <= top as u64 {
         return cost;
     }

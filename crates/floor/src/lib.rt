@@ -1,8 +1,7 @@
-// The floor: the value that travels beside a map's bytes, the table of directions, the step test and the estimate; what of a floor is refused, and when a question has passed.
+// The floor: the value that travels beside a map's bytes, the table of directions and the step test; what of a floor is refused, and when a question has passed.
 // specs/ says what they mean; docs/PROMISES.md has a row for each public function.
 
 pub mod steps; // steps.rt: the step test
-pub mod estimates; // estimates.rt: what is at least left to a goal
 
 // 01: width and height are 1 to 256 each.
 pub const GREATEST_SIDE: usize = 256;

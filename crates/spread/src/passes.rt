@@ -23,7 +23,7 @@ fn sum_of(aim: Aim, costs: &[u32], cell: usize) -> u64
     ensures sum { λ r. ⌜ r ≡ sumAt aim (now (costs .entry)) cell ⌝ }
     ensures small { λ r. ⌜ r ≤ greatestSum ⌝ }
 {
-    let estimate = floor::estimates::estimate(aim.floor, aim.place, cell);
+    let estimate = estimates::estimate(aim.floor, aim.place, cell);
     (costs[cell] as u64) + estimate
 }
 

@@ -1,14 +1,16 @@
 // The octile estimate of what is left to a goal: 02, R-4. Sums and products are in 64 bits, where none of them can wrap.
+// A part of engines and no entry: what `estimate` requires, its callers prove. floor/specs/Estimate.antt says what it is, and floor/proofs/Estimating.antt that
+// no step beats it.
 ghost use mathlib.Core.Path.{_≡_};
 ghost use Prim.Native.Nat.{_<_, _≤_};
 ghost use Rattle.paths.specs.Graph.{MARK};
 ghost use Rattle.floor.specs.Estimate.{distance, eightWays, fourWays, estimateTo};
 ghost use Rattle.floor.specs.Place.{IsNear, placeOf};
-use crate::Floor;
-use crate::LEAST_DIAGONAL;
-use crate::LEAST_STEP;
-use crate::Place;
-use crate::steps::place_of;
+use floor::Floor;
+use floor::LEAST_DIAGONAL;
+use floor::LEAST_STEP;
+use floor::Place;
+use floor::steps::place_of;
 
 fn distance(a: usize, b: usize) -> u64
     ensures { λ r. ⌜ r ≡ distance a b ⌝ }

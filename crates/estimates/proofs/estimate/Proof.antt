@@ -8,10 +8,10 @@ use borrow.Author.Needs.{needs}
 use borrow.Author.Tests.{eq-eqb, ne-eqb}
 use lib.Dec.{eqb}
 use Rattle.paths.specs.Graph.{MARK}
 use Rattle.floor.specs.Place.{placeOf}
 use Rattle.floor.specs.Estimate.{distance, eightWays, fourWays, estimateTo}
-use Rattle.floor.proofs.estimates.estimate.Statement.{statement}
-use Rattle.floor.proofs.estimates.estimate.Tie as tie
+use Rattle.estimates.proofs.estimate.Statement.{statement}
+use Rattle.estimates.proofs.estimate.Tie as tie
 
 place-of-requires : tie.Need-place-of-requires
 place-of-requires c κs = search needs
