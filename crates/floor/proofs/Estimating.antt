@@ -1,7 +1,7 @@
--- The estimate falls by at most what a step costs: a step changes each distance by at most its own, so both formulas fall by at most what they give of the step's own distances, and the table says that the step costs that.
-use mathlib.Core.Path.{_≡_, refl}
-use mathlib.Core.Logic.{_⊎_, ⊎-elim}
-use mathlib.Core.Bool.{_||_}
+-- The estimate falls by at most what a step costs: a step changes each distance by at most its own, so both formulas fall by at most what they give of the step's own distances, and the table says that the step costs that. Only the goal has 0.
+use mathlib.Core.Path.{_≡_, refl, sym, _∙_}
+use mathlib.Core.Logic.{_≢_, _⊎_, ⊎-elim}
+use mathlib.Core.Bool.{cond, _||_}
 use mathlib.Core.List.{List}
 use Prim.Native.Nat.{ℕ, _+_, _-_, _*_, _/_, _%_, _≤_, _<_, min, max}
 use native.Mathlib.Nat.{sub-self}
@@ -17,6 +17,7 @@ use Rattle.floor.specs.Step.{leastStepWeight, target, stepCost, allowed}
 use Rattle.floor.specs.Refusal.{HasPassed}
 use Rattle.floor.specs.Estimate.{distance, fourWays, eightWays, estimateTo, estimate}
 use Rattle.floor.proofs.Passing.{facts}
+use Rattle.floor.proofs.Places.{cell-of-place}
 use Rattle.floor.proofs.Rows.{direction-lt}
 use Rattle.floor.proofs.Allowed.{allowed-is}
 use Rattle.floor.proofs.Laws.{place-of-target, cost-unit, four-ways-even}
@@ -89,3 +90,22 @@ pub estimate-home : (f : Floor) (goal : ℕ) → estimate f goal goal ≡ 0
 unfolding estimateTo
 estimate-home f goal =
     rw (sub-self (goal % f .width + 1), sub-self (goal / f .width + 1)) (by-cond (λ n. n ≡ 0) (eqb (f .ways) 8) _ _ (λ e. refl) (λ e. refl))
+
+-- both formulas are 0 only where both distances are
+no-distance : (f : Floor) (p q : Place) → estimateTo f p q ≡ 0 → (distance (p .column) (q .column) ≡ 0) × (distance (p .row) (q .row) ≡ 0)
+unfolding estimateTo
+no-distance f p q = both (distance (p .column) (q .column)) (distance (p .row) (q .row))
+  where
+    both : (x y : ℕ) → cond (eqb (f .ways) 8) (eightWays x y) (fourWays x y) ≡ 0 → (x ≡ 0) × (y ≡ 0)
+    both x y = by-cond (λ n. n ≡ 0 → (x ≡ 0) × (y ≡ 0)) (eqb (f .ways) 8) _ _ (λ e z. omega (arith, sorted x y)) (λ e z. omega arith)
+
+-- only the goal has the goal's place
+pub estimate-away : (f : Floor) (goal v : ℕ) → v ≢ goal → 0 < estimate f goal v
+estimate-away f goal v other = omega (arith, away)
+  where
+    away : estimate f goal v ≢ 0
+    away z =
+        let d = no-distance f (placeOf f v) (placeOf f goal) z in
+        let column : placeOf f v .column ≡ placeOf f goal .column = omega (arith, d .0) in
+        let row : placeOf f v .row ≡ placeOf f goal .row = omega (arith, d .1) in
+        other (sym (cell-of-place f v) ∙ rw (column, row) (cell-of-place f goal))

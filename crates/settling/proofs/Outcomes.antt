@@ -16,7 +16,7 @@ use Rattle.settling.specs.Answer.{Kind, Row, answerOf, costsLeft}
 use Rattle.paths.proofs.Below.{length-values, getD-values}
 use Rattle.settling.proofs.Orders.{place-in, place-absent, at-place}
 use Rattle.paths.proofs.Meaning.{reachable-known, one-first-route, first-route-cost}
-use Rattle.settling.proofs.Lists.{L-members, L-sorted}
+use Rattle.settling.proofs.Lists.{L-members, L-rises}
 
 -- a kind's number in 01's table
 abbrev pub code : Kind → ℕ
@@ -142,11 +142,5 @@ module _ {g : Graph} {least most : ℕ} (law : Lawful g least most) (s : ℕ) (s
       let x = stopped-exactly .0 e in
       let r : Reachable g s goal = (ds, w) in
       let l = right .reached goal inside (reachable-known law s start t right goal inside .0 r) .none-less ds w in
-      rw (stopped-is x) (go l (x .1 r) (decLt k i))
-    where
-      here : getD t (getD (L t) i 0) 0 ≡ getD t goal 0
-      here = ap (λ (v : ℕ). getD t v 0) (at-place goal (L t) (L-members law s start t right goal .1 (ds, w)))
-
-      go : getD t goal 0 ≤ costOf g s ds → k ≤ i → Dec (k < i) → getD t (getD (L t) k 0) 0 ≤ costOf g s ds
-      go l h (yes b) = ⊎-elim (λ x. omega (arith, here)) (λ x. omega (arith, here, x .0)) (L-sorted law s start t right k i b (placed (ds, w)))
-      go l h (no b) = let e : k ≡ i = omega arith in omega (arith, here, ap (λ (j : ℕ). getD t (getD (L t) j 0) 0) e)
+      let here = ap (λ (v : ℕ). getD t v 0) (at-place goal (L t) (L-members law s start t right goal .1 r)) in
+      rw (stopped-is x) (omega (arith, l, here, L-rises law s start t right k i (x .1 r) (placed r)))

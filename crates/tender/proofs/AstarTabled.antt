@@ -109,36 +109,43 @@ module _ {f : Floor} {m : List ℕ} {start goal : ℕ} {r : Rooms} {a : Answer} 
         λ s. w .1 (s .reachable, λ c z b u. s .near b c u z),
       )
 
+  -- a cell of the costs room: the value of a settled cell, MARK of any other
+  pub settled-value : (v : ℕ) → v < cells f → T (isSettled h (x .table) goal v) → getD (r′ .costs) v 0 ≡ getD (x .table) v 0
+  settled-value v i t = rooms-left .cell v i ∙ left-settled h (x .table) goal v (omega (arith, x .right .covers)) t
+
+  unsettled-mark : (v : ℕ) → v < cells f → (T (isSettled h (x .table) goal v) → ⊥) → getD (r′ .costs) v 0 ≡ MARK
+  unsettled-mark v i n = rooms-left .cell v i ∙ left-unsettled h (x .table) goal v (omega (arith, x .right .covers)) n
+
+  -- so where it has a cost, the cell is settled
+  pub cost-settled : (v : ℕ) → v < cells f → getD (r′ .costs) v 0 ≢ MARK → T (isSettled h (x .table) goal v)
+  cost-settled v i m = elim (dec-T (isSettled h (x .table) goal v)) [
+    | yes t ↦ t
+    | no n ↦ absurd (m (unsettled-mark v i n))
+  ]
+
   settled-cost : (v : ℕ) → Settles f m start goal v → Least (graph f m) start v (getD (r′ .costs) v 0)
   settled-cost v s =
       let i = ends-inside law start starts v (s .reachable) in
-      rw (rooms-left .cell v i, left-settled h (x .table) goal v (omega (arith, x .right .covers)) (settles v i .1 s))
-      (reached-value law start starts (x .table) (x .right) v (s .reachable))
+      rw (settled-value v i (settles v i .1 s)) (reached-value law start starts (x .table) (x .right) v (s .reachable))
 
   other-mark : (v : ℕ) → v < cells f → (Settles f m start goal v → ⊥) → getD (r′ .costs) v 0 ≡ MARK
-  other-mark v i n =
-      rooms-left .cell v i ∙ left-unsettled h (x .table) goal v (omega (arith, x .right .covers)) (λ t. n (settles v i .0 t))
+  other-mark v i n = unsettled-mark v i (λ t. n (settles v i .0 t))
+
+  -- the answer's count
+  pub settled-row : numbersOf a .settled ≡ settledCount h (x .table) goal
+  settled-row = row-settled row (x .answer) ∙ aimed-count (graph f m) start (x .table) h goal
 
   counted : numbersOf a .settled ≡ count (λ v. not (eqb (getD (r′ .costs) v 0) MARK)) (cells f)
   unfolding settledCount
   counted =
-      row-settled row (x .answer) ∙ aimed-count (graph f m) start (x .table) h goal
+      settled-row
       ∙ rw (x .right .covers)
       (count-same (isSettled h (x .table) goal) (λ v. not (eqb (getD (r′ .costs) v 0) MARK)) (cells f)
       (λ v i t. ne-not-eqb (getD (r′ .costs) v 0) MARK (known v i t))
-      (λ v i t. go v i t (dec-T (isSettled h (x .table) goal v))))
+      (λ v i t. cost-settled v i (not-eqb-ne (getD (r′ .costs) v 0) MARK t)))
     where
       known : (v : ℕ) → v < cells f → T (isSettled h (x .table) goal v) → getD (r′ .costs) v 0 ≢ MARK
-      known v i t e =
-          let s = settles v i .0 t in
-          let k = reached-value law start starts (x .table) (x .right) v (s .reachable) in
-          let same = rooms-left .cell v i ∙ left-settled h (x .table) goal v (omega (arith, x .right .covers)) t in
-          x .right .closed v i (sym same ∙ e) (s .reachable .0) (s .reachable .1)
-
-      go : (v : ℕ) → v < cells f → T (not (eqb (getD (r′ .costs) v 0) MARK)) → Dec (T (isSettled h (x .table) goal v)) → T (isSettled h (x .table) goal v)
-      go v i t (yes s) = s
-      go v i t (no s) =
-          absurd (not-eqb-ne (getD (r′ .costs) v 0) MARK t (rooms-left .cell v i ∙ left-unsettled h (x .table) goal v (omega (arith, x .right .covers)) s))
+      known v i t e = let r = settles v i .0 t .reachable in x .right .closed v i (sym (settled-value v i t) ∙ e) (r .0) (r .1)
 
   route-fits : length (row .route) ≤ length (r .route)
   route-fits = go (row .kind) refl

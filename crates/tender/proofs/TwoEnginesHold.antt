@@ -1,20 +1,26 @@
--- Two engines, one answer: the right table is one, and its two rows have the same kind, number and route; the limit's line never applies at the cell count.
+-- Two engines, one answer: the right table is one, and its two rows have the same kind, number and route; the limit's line never applies at the cell count; what A* settles is in the part of L that the plain search settles.
 use mathlib.Core.Path.{_≡_, refl, sym, _∙_, ap, subst}
 use mathlib.Core.List.{List, [], _∷_}
-use Prim.Native.Nat.{ℕ}
+use Prim.Native.Nat.{ℕ, _≤_, _<_}
 use native.Mathlib.Omega.{arith}
 use borrow.Author.Tests.{ne-eqb}
-use lib.ListN.{length}
+use lib.Dec.{T}
+use lib.ListN.{length, getD}
 use Rattle.paths.proofs.Exists.{right-unique}
+use Rattle.settling.specs.Order.{L, place}
 use Rattle.settling.specs.Answer.{Kind, Row}
-use Rattle.settling.proofs.AimedPlain.{aimed-kind, aimed-number, aimed-route}
+use Rattle.settling.specs.Aimed.{isSettled, settledCount}
+use Rattle.settling.proofs.Outcomes.{settled-left}
+use Rattle.settling.proofs.AimedPlain.{aimed-kind, aimed-number, aimed-route, fewer-cells, fewer-count}
 use Rattle.floor.specs.declared.Floor.{Floor}
 use Rattle.floor.specs.declared.Screen.{Screen}
 use Rattle.floor.specs.declared.Screen.the-variants.{Passed, Refused}
+use Rattle.floor.specs.Place.{cells}
 use Rattle.floor.specs.Step.{graph}
 use Rattle.floor.specs.Estimate.{estimate}
 use Rattle.floor.specs.Refusal.{screen}
 use Rattle.floor.proofs.Laws.{lawful}
+use Rattle.floor.proofs.Estimating.{estimate-away}
 use Rattle.floor.proofs.Screens.{screen-after}
 use Rattle.floor.proofs.Questions.{start-inside}
 use Rattle.answering.specs.declared.Answer.{Answer}
@@ -25,9 +31,11 @@ use Rattle.search.specs.Search.{limitLine, searchLines, rowOf, ByTable}
 use Rattle.search.proofs.Promise.{by-table}
 use Rattle.astar.specs.Astar.{AimedTable}
 use Rattle.astar.proofs.Promise.{aimed-by-table}
-use Rattle.tender.specs.TwoEngines.{asPlain, SameAnswer, TwoEngines}
+use Rattle.tender.specs.TwoEngines.{asPlain, SameAnswer, SettlesNoMore, TwoEngines}
+use Rattle.tender.proofs.Rowed.{settled-is}
+use Rattle.tender.proofs.Leaving.{search-left}
 use Rattle.tender.proofs.Searches.{route-written}
-use Rattle.tender.proofs.AstarTabled.{row, has-passed, starts, ends, astar-written}
+use Rattle.tender.proofs.AstarTabled.{row, has-passed, starts, ends, settled-value, cost-settled, settled-row, astar-written}
 
 refused-alike : (f : Floor) (m : List ℕ) (start goal : ℕ) (r : Rooms) → screen (searchLines f m (asPlain f start goal) r) ≡ screen (lentLines f m start goal r)
 refused-alike f m start goal r = go (screen (lentLines f m start goal r)) refl
@@ -82,9 +90,26 @@ module _ {f : Floor} {m : List ℕ} {start goal : ℕ} {r p : Rooms} {a b : Answ
         route = route-written x c ∙ rw (z .2, routes) (sym (astar-written y d));
       }
 
+  early : (v : ℕ) → v < cells f → T (isSettled (estimate f goal) (y .table) goal v) → place v (L (x .table)) < plain .settled
+  early = rw table (fewer-cells (lawful f m (has-passed y d)) start (starts y d) (y .table) (y .right) goal (ends y d) (estimate f goal) (estimate-away f goal))
+
+  few : settledCount (estimate f goal) (y .table) goal ≤ plain .settled
+  few = rw table (fewer-count (lawful f m (has-passed y d)) start (starts y d) (y .table) (y .right) goal (ends y d) (estimate f goal) (estimate-away f goal))
+
+  fewer : SettlesNoMore f (numbersOf a) (r′ .costs) (numbersOf b) (p′ .costs)
+  fewer = record {
+    costs = λ v i k.
+        let t = cost-settled y d v i k in
+        search-left x c .cell v i ∙ settled-left (x .table) (plain .settled) v (omega (arith, x .right .covers)) (early v i t)
+        ∙ ap (λ (l : List ℕ). getD l v 0) table ∙ sym (settled-value y d v i t);
+    settled = omega (arith, few, settled-is x, settled-row y d);
+  }
+
 pub two-engines : TwoEngines
 two-engines = record {
   refused = refused-alike;
   same = λ f m start goal r a r′ x c p b p′ y d. same (by-table x c) c (aimed-by-table y d) d;
   same-call = λ f m start goal r a r′ x c p b p′ y d. rw (x .numbers, y .numbers) (same (by-table (x .searched) c) c (aimed-by-table (y .aimed) d) d);
+  fewer = λ f m start goal r a r′ x c p b p′ y d. fewer (by-table x c) c (aimed-by-table y d) d;
+  fewer-call = λ f m start goal r a r′ x c p b p′ y d. rw (x .numbers, y .numbers) (fewer (by-table (x .searched) c) c (aimed-by-table (y .aimed) d) d);
 }

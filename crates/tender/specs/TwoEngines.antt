@@ -1,8 +1,10 @@
--- 02, R-4: "Found, cost and first route are proved equal to the plain search's with the limit at the cell count", of any two results that meet the promises.
+-- 02, R-4: "Found, cost and first route are proved equal to the plain search's with the limit at the cell count", of any two results that meet the promises; and A* settles no cell that the plain search does not.
 use mathlib.Core.Path.{_≡_}
+use mathlib.Core.Logic.{_≢_}
 use mathlib.Core.List.{List}
-use Prim.Native.Nat.{ℕ}
-use lib.ListN.{take}
+use Prim.Native.Nat.{ℕ, _≤_, _<_}
+use lib.ListN.{getD, take}
+use Rattle.paths.specs.Graph.{MARK}
 use Rattle.floor.specs.declared.Floor.{Floor}
 use Rattle.floor.specs.declared.Screen.the-variants.{Passed}
 use Rattle.floor.specs.Place.{cells}
@@ -26,6 +28,11 @@ pub record SameAnswer (n : AnswerNumbers) (room : List ℕ) (k : AnswerNumbers) 
   pub length : n .length ≡ k .length
   pub route : take (n .length) room ≡ take (k .length) room′
 
+-- of the plain search's numbers and costs room and then A*'s: where A* leaves a cost, the plain search leaves the same, and A*'s count is no greater
+pub record SettlesNoMore (f : Floor) (n : AnswerNumbers) (room : List ℕ) (k : AnswerNumbers) (room′ : List ℕ) : Type 0 where
+  pub costs : (v : ℕ) → v < cells f → getD room′ v 0 ≢ MARK → getD room v 0 ≡ getD room′ v 0
+  pub settled : k .settled ≤ n .settled
+
 pub record TwoEngines : Type 0 where
   -- both are refused alike: with the limit at the cell count 15 is never given
   pub refused : (f : Floor) (m : List ℕ) (start goal : ℕ) (r : Rooms) → screen (searchLines f m (asPlain f start goal) r) ≡ screen (lentLines f m start goal r)
@@ -39,3 +46,12 @@ pub record TwoEngines : Type 0 where
       → screen (searchLines f m (asPlain f start goal) r) ≡ Passed
       → (p : Rooms) (b : AnswerNumbers) (p′ : Rooms) → AimedCall f m start goal p b p′ → screen (lentLines f m start goal p) ≡ Passed
       → SameAnswer a (r′ .route) b (p′ .route)
+  -- A* settles no cell that the plain search does not: only the goal's estimate is 0, so others that are settled cost less and stand before it in L; for none both settle all of L
+  pub fewer : (f : Floor) (m : List ℕ) (start goal : ℕ) → (r : Rooms) (a : Answer) (r′ : Rooms) → Searched f m (asPlain f start goal) r a r′
+      → screen (searchLines f m (asPlain f start goal) r) ≡ Passed
+      → (p : Rooms) (b : Answer) (p′ : Rooms) → Aimed f m start goal p b p′ → screen (lentLines f m start goal p) ≡ Passed
+      → SettlesNoMore f (numbersOf a) (r′ .costs) (numbersOf b) (p′ .costs)
+  pub fewer-call : (f : Floor) (m : List ℕ) (start goal : ℕ) → (r : Rooms) (a : AnswerNumbers) (r′ : Rooms) → Called f m (asPlain f start goal) r a r′
+      → screen (searchLines f m (asPlain f start goal) r) ≡ Passed
+      → (p : Rooms) (b : AnswerNumbers) (p′ : Rooms) → AimedCall f m start goal p b p′ → screen (lentLines f m start goal p) ≡ Passed
+      → SettlesNoMore f a (r′ .costs) b (p′ .costs)
