@@ -1,10 +1,19 @@
--- A row of 01's table as an answer, and an answer as 01's numbers.
+-- The row of 01's table that answers a question, a row as an answer, and an answer as 01's numbers.
+use mathlib.Core.List.{List}
+use Prim.Native.Nat.{ℕ}
 use lib.ListN.{length}
 use Rattle.paths.specs.Graph.{MARK}
-use Rattle.settling.specs.Answer.{Kind, Row}
+use Rattle.settling.specs.Answer.{Kind, Row, answerOf}
+use Rattle.floor.specs.declared.Floor.{Floor}
+use Rattle.floor.specs.Step.{graph}
 use Rattle.answering.specs.declared.Answer.{Answer}
 use Rattle.answering.specs.declared.Answer.the-variants.{Found, None, Stopped}
 use Rattle.answering.specs.declared.AnswerNumbers.{AnswerNumbers}
+use Rattle.answering.specs.Question.{Question}
+
+-- the row of 01's table that the right table of the start gives
+abbrev pub rowOf : Floor → List ℕ → Question → List ℕ → Row
+rowOf f m q t = answerOf (graph f m) (q .start) t (q .goal) (q .limit)
 
 -- a row as the answer of a search: settled count, number returned and route length
 abbrev pub answered : Kind → Row → Answer

@@ -19,9 +19,9 @@ use Rattle.maptext.specs.declared.Read.the-variants.{Map}
 use Rattle.maptext.specs.Reading as reading
 use Rattle.maptext.specs.Reading.{readFor}
 use Rattle.answering.specs.declared.Answer.{Answer}
-use Rattle.answering.specs.Answers.{answered, numbersOf}
+use Rattle.answering.specs.Answers.{rowOf, answered, numbersOf}
 use Rattle.answering.specs.Rooms.{Rooms, roomLines}
-use Rattle.search.specs.Search.{limitLine, searchLines, rowOf, refused, passed}
+use Rattle.search.specs.Search.{limitLine, searchLines, refused, passed}
 use Rattle.recordlayout.specs.Record.{questionIn, waysIn}
 use Rattle.mapuse.specs.Use.{greatestUsedCells, usedOf}
 use Rattle.mapuse.proofs.Using.{can-use}

@@ -16,7 +16,7 @@ use Rattle.answering.specs.Rooms.{Rooms, rooms, lentLines}
 use Rattle.answering.specs.Question.{Question}
 use Rattle.search.specs.Search.{limitLine, searchLines, Searched, refused, passed}
 use Rattle.answering.proofs.Lending.{asked-well, enough-costs, enough-work, enough-route}
-use Rattle.search.specs.Last.{Finished}
+use Rattle.lastband.specs.Last.{Finished}
 
 module _ (f : Floor) (m : List ℕ) (q : Question) (r : Rooms) where
   pub searched-refused : (n p : ℕ) → screen (searchLines f m q r) ≡ Refused n p → Searched f m q r (Answer.Refused n p) r

@@ -11,10 +11,10 @@ use Rattle.floor.specs.Step.{graph}
 use Rattle.floor.proofs.Lines.{number-between}
 use Rattle.answering.specs.declared.Answer.{Answer}
 use Rattle.answering.specs.declared.AnswerNumbers.{AnswerNumbers}
-use Rattle.answering.specs.Answers.{answered, numbersOf}
+use Rattle.answering.specs.Answers.{rowOf, answered, numbersOf}
 use Rattle.answering.specs.Rooms.{Rooms}
 use Rattle.answering.specs.Question.{Question}
-use Rattle.search.specs.Search.{searchLines, rowOf, after, ByTable, Searched, refused, passed, Called}
+use Rattle.search.specs.Search.{searchLines, after, ByTable, Searched, refused, passed, Called}
 
 module _ {f : Floor} {m : List ℕ} {q : Question} {r : Rooms} {a : Answer} {r′ : Rooms} where
   -- the two cases, each where it applies

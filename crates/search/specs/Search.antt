@@ -5,7 +5,7 @@ use Prim.Native.Nat.{ℕ}
 use lib.Dec.{eqb}
 use lib.ListN.{length}
 use Rattle.paths.specs.Table.{Right}
-use Rattle.settling.specs.Answer.{Row, answerOf, costsLeft}
+use Rattle.settling.specs.Answer.{Row, costsLeft}
 use Rattle.floor.specs.declared.Floor.{Floor}
 use Rattle.floor.specs.declared.Screen.the-variants.{Passed, Refused}
 use Rattle.floor.specs.Step.{graph}
@@ -13,7 +13,7 @@ use Rattle.floor.specs.Refusal.{Line, line, screen}
 use Rattle.answering.specs.declared.Answer.{Answer}
 use Rattle.answering.specs.declared.AnswerNumbers.{AnswerNumbers}
 use Rattle.answering.specs.Question.{Question}
-use Rattle.answering.specs.Answers.{answered, numbersOf}
+use Rattle.answering.specs.Answers.{rowOf, answered, numbersOf}
 use Rattle.answering.specs.Rooms.{Rooms, lengthLines, leaving}
 
 -- 15: the limit is 0 (02, R-2)
@@ -26,10 +26,6 @@ limitedLines f m q costs work route = lengthLines f m (q .start) (q .goal) costs
 
 abbrev pub searchLines : Floor → List ℕ → Question → Rooms → List Line
 searchLines f m q r = limitedLines f m q (length (r .costs)) (length (r .work)) (length (r .route))
-
--- the row of 01's table that the right table of the start gives
-abbrev pub rowOf : Floor → List ℕ → Question → List ℕ → Row
-rowOf f m q t = answerOf (graph f m) (q .start) t (q .goal) (q .limit)
 
 -- the rooms after an answer: the costs left and the route are the row's
 abbrev pub after : Floor → List ℕ → Row → Rooms → Rooms

@@ -4,12 +4,11 @@ ghost use lib.ListN.{length, replicate};
 ghost use Prim.Native.Nat.{_*_, _≤_, _<_};
 ghost use Rattle.floor.specs.Place.{cells, floorOf};
 ghost use Rattle.floor.specs.Refusal.{HasPassed, screen};
-ghost use Rattle.search.specs.Last.{Finished};
+ghost use Rattle.lastband.specs.Last.{Finished};
 ghost use Rattle.answering.specs.Answers.{numbersOf};
 ghost use Rattle.answering.specs.Rooms.{rooms};
 ghost use Rattle.answering.specs.Question.{question};
 ghost use Rattle.search.specs.Search.{limitedLines, Searched, Called};
-use crate::last::finish;
 use answering::Answer;
 use answering::AnswerNumbers;
 use answering::numbers::numbers_of;
@@ -17,6 +16,7 @@ use answering::rooms::fill;
 use answering::rooms::screen_lengths;
 use floor::Floor;
 use floor::Screen;
+use lastband::last::finish;
 use wave::bands::settle;
 
 // Refusals 1 to 11, then 15 of the limit.

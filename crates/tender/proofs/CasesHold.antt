@@ -21,7 +21,8 @@ use Rattle.floor.specs.Refusal.{firstAbove, screen, questionLines}
 use Rattle.floor.proofs.Laws.{lawful}
 use Rattle.floor.proofs.Questions.{passed-both, question-passed, start-inside}
 use Rattle.answering.specs.Rooms.{roomLines, lengthLines}
-use Rattle.search.specs.Search.{limitLine, rowOf}
+use Rattle.answering.specs.Answers.{rowOf}
+use Rattle.search.specs.Search.{limitLine}
 use Rattle.tender.specs.Cases.{Told, gives, refuses, Case, linesOf, HoldsAs, AllHold, cases}
 
 -- what is computed of a case, by what is told of it: whether it is refused, whether the table keeps the rule, and the row and the costs from the table

@@ -34,10 +34,10 @@ use Rattle.answering.specs.declared.Answer.{Answer}
 use Rattle.answering.specs.declared.Answer.the-variants.{Found, None, Stopped}
 use Rattle.answering.specs.declared.AnswerNumbers.{AnswerNumbers}
 use Rattle.answering.specs.Answers as answer
-use Rattle.answering.specs.Answers.{answered}
+use Rattle.answering.specs.Answers.{rowOf, answered}
 use Rattle.answering.specs.Rooms.{Rooms, lentLines}
 use Rattle.answering.specs.Question.{Question}
-use Rattle.search.specs.Search.{searchLines, rowOf, Searched}
+use Rattle.search.specs.Search.{searchLines, Searched}
 use Rattle.search.proofs.Promise.{by-table, by-refusal}
 use Rattle.astar.specs.Astar.{aimedRow, Aimed}
 use Rattle.astar.proofs.Promise.{aimed-by-table, aimed-by-refusal}

@@ -22,10 +22,10 @@ use Rattle.floor.proofs.Laws.{lawful}
 use Rattle.floor.proofs.Questions.{question-passed, start-inside, goal-inside}
 use Rattle.answering.specs.declared.Answer.{Answer}
 use Rattle.answering.specs.declared.Answer.the-variants.{Found, Stopped}
-use Rattle.answering.specs.Answers.{answered, numbersOf}
+use Rattle.answering.specs.Answers.{rowOf, answered, numbersOf}
 use Rattle.answering.specs.Rooms.{Rooms}
 use Rattle.answering.specs.Question.{Question}
-use Rattle.search.specs.Search.{searchLines, rowOf, ByTable, Searched, refused, passed}
+use Rattle.search.specs.Search.{searchLines, ByTable, Searched, refused, passed}
 use Rattle.search.proofs.Lending.{search-question}
 
 -- a kind from its number in 01's table

@@ -13,10 +13,10 @@ use Rattle.floor.specs.Refusal.{screen}
 use Rattle.floor.proofs.Laws.{lawful}
 use Rattle.floor.proofs.Questions.{question-passed, start-inside}
 use Rattle.answering.specs.declared.Answer.{Answer}
-use Rattle.answering.specs.Answers.{answered, numbersOf}
+use Rattle.answering.specs.Answers.{rowOf, answered, numbersOf}
 use Rattle.answering.specs.Rooms.{Rooms}
 use Rattle.answering.specs.Question.{Question}
-use Rattle.search.specs.Search.{searchLines, rowOf, ByTable, Searched, refused, passed}
+use Rattle.search.specs.Search.{searchLines, ByTable, Searched, refused, passed}
 use Rattle.search.proofs.Lending.{search-question, searched-refused}
 use Rattle.search.proofs.Promise.{by-table, by-refusal}
 use Rattle.tender.specs.SearchTable.{SameLengths}

@@ -24,10 +24,10 @@ use Rattle.floor.proofs.Estimating.{estimate-away}
 use Rattle.floor.proofs.Screens.{screen-after}
 use Rattle.floor.proofs.Questions.{start-inside}
 use Rattle.answering.specs.declared.Answer.{Answer}
-use Rattle.answering.specs.Answers.{answered, numbersOf}
+use Rattle.answering.specs.Answers.{rowOf, answered, numbersOf}
 use Rattle.answering.specs.Rooms.{Rooms, lentLines}
 use Rattle.answering.proofs.Lending.{asked-well}
-use Rattle.search.specs.Search.{limitLine, searchLines, rowOf, ByTable}
+use Rattle.search.specs.Search.{limitLine, searchLines, ByTable}
 use Rattle.search.proofs.Promise.{by-table}
 use Rattle.astar.specs.Astar.{AimedTable}
 use Rattle.astar.proofs.Promise.{aimed-by-table}

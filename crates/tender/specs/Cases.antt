@@ -11,7 +11,8 @@ use Rattle.floor.specs.Place.{floorOf, cells}
 use Rattle.floor.specs.Step.{graph}
 use Rattle.floor.specs.Refusal.{Line, screen}
 use Rattle.answering.specs.Question.{Question, question}
-use Rattle.search.specs.Search.{limitedLines, rowOf}
+use Rattle.answering.specs.Answers.{rowOf}
+use Rattle.search.specs.Search.{limitedLines}
 
 -- what the paper says of a question: a row of its table, with the right table of the start and the costs that the search leaves; or a refusal and its place
 pub data Told : Type 0 where

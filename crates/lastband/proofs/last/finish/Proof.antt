@@ -5,9 +5,9 @@ use native.Mathlib.Omega.{arith}
 use borrow.Author.Needs.{needs}
 use Rattle.settling.specs.Order.{key}
 use Rattle.ranks.specs.Listed.{keyBelow}
-use Rattle.search.proofs.Answering.{listed, few, covers, goalPlace, can-stop, can-walk, limit-falls, goal-before, place-small, finished-none, finished-found, finished-stopped}
-use Rattle.search.proofs.last.finish.Statement.{statement}
-use Rattle.search.proofs.last.finish.Tie as tie
+use Rattle.lastband.proofs.Answering.{listed, few, covers, goalPlace, can-stop, can-walk, limit-falls, goal-before, place-small, finished-none, finished-found, finished-stopped}
+use Rattle.lastband.proofs.last.finish.Statement.{statement}
+use Rattle.lastband.proofs.last.finish.Tie as tie
 
 abbrev start : tie.After-front → tie.Start
 start c = c .before .before .before .before .before

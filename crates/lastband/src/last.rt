@@ -1,5 +1,5 @@
 // The last band: it is cut at the goal or at the limit, and its cells are not expanded.
-ghost use Rattle.search.specs.Last.{CanStop, StoppedAt, CanArrive, Arrived, CanFinish, Finished};
+ghost use Rattle.lastband.specs.Last.{CanStop, StoppedAt, CanArrive, Arrived, CanFinish, Finished};
 ghost use Rattle.answering.specs.Question.{question};
 use answering::Answer;
 use floor::Floor;
@@ -49,7 +49,7 @@ fn arrive(
 }
 
 // The answer from the last band, with the costs cut and, if the goal is found, the route written.
-pub(crate) fn finish(
+pub fn finish(
     f: Floor,
     map: &[u8],
     start: usize,

@@ -5,8 +5,8 @@ use native.Mathlib.Omega.{arith}
 use borrow.Author.Needs.{needs}
 use Rattle.settling.specs.Order.{key}
 use Rattle.floor.proofs.Laws.{lawful}
-use Rattle.search.proofs.last.arrive.Statement.{statement}
-use Rattle.search.proofs.last.arrive.Tie as tie
+use Rattle.lastband.proofs.last.arrive.Statement.{statement}
+use Rattle.lastband.proofs.last.arrive.Tie as tie
 
 mul-cost : tie.Need-mul-cost
 mul-cost c = search needs

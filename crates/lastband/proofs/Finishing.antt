@@ -28,8 +28,8 @@ use Rattle.wave.specs.declared.Front.{Front}
 use Rattle.wave.specs.Bands.{Between}
 use Rattle.ranks.specs.Listed.{keyBelow}
 use Rattle.answering.specs.Question.{Question}
-use Rattle.search.specs.Search.{rowOf}
-use Rattle.search.proofs.Ranks.{rank-listed}
+use Rattle.answering.specs.Answers.{rowOf}
+use Rattle.lastband.proofs.Ranks.{rank-listed}
 
 module _ (f : Floor) (m : List ℕ) (q : Question) (costs work : List ℕ) (o : Front) (x : Between f m (q .start) costs work o) where
   -- the right table of the start

@@ -19,9 +19,8 @@ use Rattle.ranks.specs.Listed.{AmongCells}
 use Rattle.wave.specs.Bands.{Rounds}
 use Rattle.ranks.specs.Listed.{CanFind, IsNext}
 use Rattle.walkback.specs.Walks.{CanWalk}
-use Rattle.answering.specs.Answers.{answered}
+use Rattle.answering.specs.Answers.{rowOf, answered}
 use Rattle.answering.specs.Question.{Question}
-use Rattle.search.specs.Search.{rowOf}
 
 pub record CanStop (costs work : List ℕ) (limit : ℕ) (b : Band) : Type 0 where
   pub among : AmongCells (length costs) work (b .front .from) (b .front .len)

@@ -24,11 +24,11 @@ use Rattle.wave.specs.Bands.{IsBand, Looked, none-open, is-last, is-next, Round
 use Rattle.walkback.specs.Walks.{CanWalk}
 use Rattle.answering.specs.Answers.{answered}
 use Rattle.answering.specs.Question.{Question}
-use Rattle.search.specs.Last.{CanStop, StoppedAt, Arrived, CanFinish, Finished}
+use Rattle.lastband.specs.Last.{CanStop, StoppedAt, Arrived, CanFinish, Finished}
 use Rattle.wave.proofs.Rounds.{band-top, band-rises, band-wave, band-counted, can-look}
 use Rattle.settling.proofs.Counts.{cheaper-most}
-use Rattle.search.proofs.Ranks.{can-find}
-use Rattle.search.proofs.Finishing.{table, right, row-none, left-all, goal-rank, row-found, left-goal, row-stopped, left-limit}
+use Rattle.lastband.proofs.Ranks.{can-find}
+use Rattle.lastband.proofs.Finishing.{table, right, row-none, left-all, goal-rank, row-found, left-goal, row-stopped, left-limit}
 
 module _ {f : Floor} {m : List ℕ} {q : Question} {costs work route : List ℕ} {b : Band} (c : CanFinish f m q costs work route b) where
   abbrev r : Rounds f m (q .start) (q .goal) (q .limit) costs work b
