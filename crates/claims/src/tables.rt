@@ -55,7 +55,7 @@ fn first_breaking(f: Floor, map: &[u8], start: u32, costs: &[u32]) -> usize
 }
 
 // Refused; or right, exactly for the right table; or the lowest cell that breaks the rule. A table settles a claimed "none".
-// Entries past width × height are not looked at. Each cell takes at most one step test a direction.
+// Entries past width × height are not looked at. Each direction of a cell is looked at once at most.
 pub fn check_table(f: Floor, map: &[u8], start: u32, costs: &[u32]) -> TableVerdict
     ensures { λ r. ⌜ numbersOf r ≡ tableVerdict f (now (map .entry)) start (now (costs .entry)) ⌝ }
 {

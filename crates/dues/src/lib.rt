@@ -6,8 +6,10 @@ ghost use lib.ListN.{length};
 ghost use Rattle.paths.specs.Table.{offer, smaller, smallest, due};
 ghost use Rattle.floor.specs.Place.{cells};
 ghost use Rattle.floor.specs.Step.{graph};
+ghost use Rattle.floor.specs.Around.{aroundOf};
 ghost use Rattle.floor.specs.Refusal.{HasPassed};
 ghost use Rattle.dues.specs.Offered.{offered};
+use floor::Around;
 use floor::Floor;
 use floor::Into;
 use floor::MARK;
@@ -26,11 +28,18 @@ fn sum_in_full(value: u32, cost: u32) -> u64
 }
 
 // What the step in one direction into `cell` offers.
-fn offer_from(f: Floor, map: &[u8], costs: &[u32], cell: usize, direction: usize) -> Offer
-    requires { ⌜ HasPassed f (now map) × (cells f ≤ length (now costs)) ⌝ }
+fn offer_from(
+    f: Floor,
+    map: &[u8],
+    costs: &[u32],
+    cell: usize,
+    around: Around,
+    direction: usize,
+) -> Offer
+    requires { ⌜ HasPassed f (now map) × (cells f ≤ length (now costs)) × (around ≡ aroundOf f (now map) cell) ⌝ }
     ensures { λ r. ⌜ offered r ≡ offer (graph f (now (map .entry))) (now (costs .entry)) cell direction ⌝ }
 {
-    let step = floor::steps::step_into(f, map, cell, direction);
+    let step = floor::neighbours::step_into(f, map, cell, around, direction);
     let Into::From(from, cost) = step else {
         return Offer::Nothing;
     };
@@ -61,10 +70,11 @@ fn smallest_offer(f: Floor, map: &[u8], costs: &[u32], cell: usize) -> Offer
     requires { ⌜ HasPassed f (now map) × (cells f ≤ length (now costs)) ⌝ }
     ensures { λ r. ⌜ offered r ≡ smallest (graph f (now (map .entry))) (now (costs .entry)) cell 8 ⌝ }
 {
+    let around = floor::neighbours::around_of(f, map, cell);
     let mut least = Offer::Nothing;
     let mut direction = 0;
     while direction < 8 {
-        least = smaller_of(least, offer_from(f, map, costs, cell, direction));
+        least = smaller_of(least, offer_from(f, map, costs, cell, around, direction));
         direction += 1;
     }
     least

@@ -4,10 +4,12 @@ use mathlib.Core.Logic.{_↔_}
 use mathlib.Core.Bool.{Bool, true, false, cond, not, _&&_}
 use mathlib.Core.List.{List}
 use Prim.Native.Nat.{ℕ, _<_}
+use native.Mathlib.Omega.{arith}
 use lib.Dec.{T, ltb, ltb→lt, lt→ltb}
 use lib.ListN.{getD}
 use Rattle.paths.proofs.Bools.{T-true, T-and, and-T}
 use Rattle.floor.specs.declared.Floor.{Floor}
+use Rattle.floor.specs.declared.Onward.the-variants.{Enters, Nowhere}
 use Rattle.floor.specs.declared.Place.{Place}
 use Rattle.floor.specs.declared.Reason.{Reason}
 use Rattle.floor.specs.declared.Reason.the-variants.{CutsCorner}
@@ -15,7 +17,7 @@ use Rattle.floor.specs.declared.Step.{Step}
 use Rattle.floor.specs.declared.Step.the-variants.{To, Barred}
 use Rattle.floor.specs.Direction.{isDiagonal}
 use Rattle.floor.specs.Place.{cells, placeOf, cellAt, moved, corner, onMap, isOpen}
-use Rattle.floor.specs.Step.{isDirection, target, stepCost, cutsCorner, entering, stepOf, isTo, allowed}
+use Rattle.floor.specs.Step.{isDirection, target, stepCost, cutsCorner, entering, stepOf, onward, isTo, allowed}
 use Rattle.floor.specs.Allowed.{Allowed}
 use Rattle.floor.proofs.Places.{cell-of-place, cell-lt}
 
@@ -93,9 +95,28 @@ module _ (f : Floor) (m : List ℕ) (v d : ℕ) where
       let s = step-is (allowed-is t) in
       record { steps = t; to = cc; costs = cc }
 
+  pub leads-to : {w c : ℕ} → Leads f m v d w c → stepOf f m v d ≡ To w c
+  leads-to l = rw (l .to, l .costs) (step-is (allowed-is (l .steps)))
+
   is-allowed : Allowed f m v d → T (allowed f m v d)
   unfolding allowed
   is-allowed a = rw (step-is a) tt
 
   pub allowed-words : T (allowed f m v d) ↔ Allowed f m v d
   allowed-words = (allowed-is, is-allowed)
+
+  -- the same of a step without its reason
+  pub enters : {w c : ℕ} → onward (stepOf f m v d) ≡ Enters w c → Leads f m v d w c
+  enters {w} {c} e = leads (enters-to (stepOf f m v d) e)
+    where
+      enters-to : (s : Step) → onward s ≡ Enters w c → s ≡ To w c
+      enters-to (To x y) e = cc
+      enters-to (Barred r) e = let z : _≡_ {A = ℕ} 0 1 = cc in absurd (omega arith)
+
+  pub nowhere : onward (stepOf f m v d) ≡ Nowhere → T (allowed f m v d) → ⊥
+  unfolding allowed
+  nowhere e t = barred (stepOf f m v d) e t
+    where
+      barred : (s : Step) → onward s ≡ Nowhere → T (isTo s) → ⊥
+      barred (To x y) e t = let z : _≡_ {A = ℕ} 0 1 = cc in omega arith
+      barred (Barred r) e t = absurd t

@@ -15,44 +15,39 @@ use Rattle.paths.proofs.Below.{every-at}
 use Rattle.floor.specs.declared.Floor.{Floor}
 use Rattle.floor.specs.declared.Into.{Into}
 use Rattle.floor.specs.declared.Into.the-variants.{From, Nothing}
-use Rattle.floor.specs.declared.Reason.{Reason}
-use Rattle.floor.specs.declared.Step.the-variants.{To, Barred}
+use Rattle.floor.specs.declared.Onward.the-variants.{Enters, Nowhere}
 use Rattle.floor.specs.Direction.{opposite}
 use Rattle.floor.specs.Place.{cells}
-use Rattle.floor.specs.Step.{target, stepCost, stepOf, isTo, allowed, intoOf, graph}
+use Rattle.floor.specs.Step.{target, stepCost, stepOf, onward, allowed, intoOf, graph}
 use Rattle.floor.proofs.Rows.{direction-lt}
-use Rattle.floor.proofs.Allowed.{allowed-is, leads, open-inside}
+use Rattle.floor.proofs.Allowed.{allowed-is, leads, leads-to, enters, nowhere, open-inside}
 use Rattle.floor.proofs.Laws.{step-back-allowed, there-and-back}
 
 opposite-twice : (d : ℕ) → d < 8 → opposite (opposite d) ≡ d
 opposite-twice d h = eqb→eq (opposite (opposite d)) d (every-at (λ e. eqb (opposite (opposite e)) e) 8 tt d h)
 
+-- the answers of the step back, turned round
 module _ (f : Floor) (m : List ℕ) (v d : ℕ) where
-  barred-not : (r : Reason) → stepOf f m v d ≡ Barred r → T (allowed f m v d) → ⊥
-  unfolding allowed
-  barred-not r e t = let z : T (isTo (Barred r)) = rw e at t in absurd z
-
-  -- the step test's answers of the step back, turned round
   pub no-direction : 8 ≤ d → Nothing ≡ intoOf f m v d
   unfolding intoOf
   no-direction h =
       let u = target f v (opposite d) in
       rw (not-T-false (allowed f m u d) (λ t. let l = direction-lt f d (allowed-is f m u d t .direction) in omega arith))
 
-module _ (f : Floor) (m : List ℕ) (v d : ℕ) where
-  pub into-nothing : (r : Reason) → stepOf f m v (opposite d) ≡ Barred r → Nothing ≡ intoOf f m v d
+  pub into-nothing : onward (stepOf f m v (opposite d)) ≡ Nowhere → Nothing ≡ intoOf f m v d
   unfolding intoOf
-  into-nothing r e =
+  into-nothing e =
       let u = target f v (opposite d) in
       rw (not-T-false (allowed f m u d && eqb (target f u d) v) (λ b.
       let s = T-and (allowed f m u d) (eqb (target f u d) v) b in
-      barred-not f m v (opposite d) r e (subst (λ (w : ℕ). T (allowed f m w (opposite d))) (eqb→eq (target f u d) v (s .1)) (step-back-allowed f m u d (s .0)))))
+      nowhere f m v (opposite d) e (subst (λ (w : ℕ). T (allowed f m w (opposite d))) (eqb→eq (target f u d) v (s .1)) (step-back-allowed f m u d (s .0)))))
 
-  pub into-from : (w c : ℕ) → d < 8 → stepOf f m v (opposite d) ≡ To w c → From w c ≡ intoOf f m v d
+  pub into-from : (w c : ℕ) → d < 8 → onward (stepOf f m v (opposite d)) ≡ Enters w c → From w c ≡ intoOf f m v d
   unfolding intoOf
   into-from w c h e =
-      let l = leads f m v (opposite d) e in
-      let there = leads f m w d (rw (opposite-twice d h) at (there-and-back f m v (opposite d) e)) in
+      let l = enters f m v (opposite d) e in
+      let back = there-and-back f m v (opposite d) (leads-to f m v (opposite d) l) in
+      let there = leads f m w d (rw (opposite-twice d h) at back) in
       rw (← l .to, T-true (allowed f m w d) (there .steps), eq-eqb (target f w d) v (sym (there .to)), there .costs, ← there .to)
 
   -- it leaves a cell of the floor

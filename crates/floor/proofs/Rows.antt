@@ -1,6 +1,6 @@
 -- The table of directions, by a test of every row: its greatest entries, what its offsets do to a column or a row, and their bits.
 use mathlib.Core.Path.{_≡_, refl, ap}
-use mathlib.Core.Logic.{_⊎_, inl, inr}
+use mathlib.Core.Logic.{_≢_, _⊎_, inl, inr, ⊎-elim}
 use mathlib.Core.Bool.{Bool, true, false, _||_}
 use Prim.Native.Nat.{ℕ, zero, suc, _+_, _-_, _%_, _≤_, _<_}
 use native.Mathlib.Omega.{arith}
@@ -10,7 +10,7 @@ use lib.IntN.{ℤ, pos, negsuc, _+ℤ_}
 use mir.Syntax.{w32}
 use mir.Val.{ofZ, SFits}
 use Rattle.floor.specs.declared.Floor.{Floor}
-use Rattle.floor.specs.Direction.{rowOf, plusOne, eastOf, southOf}
+use Rattle.floor.specs.Direction.{rowOf, plusOne, IsSmall, eastOf, southOf}
 use Rattle.floor.specs.Step.{isDirection}
 use Rattle.paths.proofs.Bools.{T-and}
 use Rattle.paths.proofs.Below.{every-at}
@@ -20,12 +20,7 @@ pub direction-lt : (f : Floor) (d : ℕ) → T (isDirection f d) → d < 8
 unfolding isDirection
 direction-lt f d t = ltb→lt d 8 (T-and (ltb d 8) (eqb (f .ways) 8 || eqb (d % 2) 0) t .0)
 
-pub record Bounds (d : ℕ) : Type 0 where
-  pub east : eastOf d ≤ 2
-  pub south : southOf d ≤ 2
-  pub unit : rowOf d .unit ≤ 99
-
-pub bounds : (d : ℕ) → d < 8 → Bounds d
+pub bounds : (d : ℕ) → d < 8 → IsSmall (rowOf d)
 bounds d h = record {
   east = leb→le (eastOf d) 2 (every-at (λ d. leb (eastOf d) 2) 8 tt d h);
   south = leb→le (southOf d) 2 (every-at (λ d. leb (southOf d) 2) 8 tt d h);
@@ -51,6 +46,17 @@ module _ (d : ℕ) (h : d < 8) (n : ℕ) (k : 0 < n) where
   moved-south = moved-by n (rowOf d .dy) (every-at (λ d. isOffset (rowOf d .dy)) 8 tt d h) k
 
 -- the bits of an offset that is at most 1: one less than `plusOne`, or those of a number below 0, which are neither 0 nor 1
-pub offset-bits : (z : ℤ) → SFits w32 z → plusOne z ≤ 2 → (plusOne z ≡ ofZ w32 z + 1) ⊎ ((plusOne z ≡ 0) × (2 ≤ ofZ w32 z))
+offset-bits : (z : ℤ) → SFits w32 z → plusOne z ≤ 2 → (plusOne z ≡ ofZ w32 z + 1) ⊎ ((plusOne z ≡ 0) × (2 ≤ ofZ w32 z))
 offset-bits (pos n) s h = inl (omega arith)
 offset-bits (negsuc n) s h = inr (refl, omega (arith, s .sfits))
+
+-- what code learns of an offset that it compares with 0, and then with 1
+module _ {z : ℤ} (s : SFits w32 z) (h : plusOne z ≤ 2) where
+  pub offset-none : ofZ w32 z ≡ 0 → plusOne z ≡ 1
+  offset-none e = ⊎-elim (λ b. omega arith) (λ b. omega arith) (offset-bits z s h)
+
+  pub offset-forth : ofZ w32 z ≡ 1 → plusOne z ≡ 2
+  offset-forth e = ⊎-elim (λ b. omega arith) (λ b. omega arith) (offset-bits z s h)
+
+  pub offset-back : ofZ w32 z ≢ 0 → ofZ w32 z ≢ 1 → plusOne z ≡ 0
+  offset-back e k = ⊎-elim (λ b. omega arith) (λ b. omega arith) (offset-bits z s h)

@@ -1,7 +1,7 @@
 -- The table of directions.
 use mathlib.Core.Bool.{Bool}
 use mathlib.Core.List.{List, [], _∷_}
-use Prim.Native.Nat.{ℕ, suc, _+_, _%_}
+use Prim.Native.Nat.{ℕ, suc, _+_, _%_, _≤_}
 use lib.Dec.{eqb}
 use lib.IntN.{ℤ, pos, negsuc}
 use lib.ListN.{getD}
@@ -48,6 +48,12 @@ opposite d = (d + 4) % 8
 abbrev pub plusOne : ℤ → ℕ
 plusOne (pos n) = suc n
 plusOne (negsuc n) = 0
+
+-- what code that is handed a row needs of it: offsets and unit are no greater than the table's
+pub record IsSmall (r : Direction) : Type 0 where
+  pub east : plusOne (r .dx) ≤ 2
+  pub south : plusOne (r .dy) ≤ 2
+  pub unit : r .unit ≤ 99
 
 abbrev pub eastOf : ℕ → ℕ
 eastOf d = plusOne (rowOf d .dx)

@@ -1,6 +1,7 @@
 pub mod Direction
 pub mod Place
 pub mod Step
+pub mod Around
 pub mod Allowed
 pub mod Estimate
 pub mod Length

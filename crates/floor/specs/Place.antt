@@ -5,9 +5,10 @@ use Prim.Native.Nat.{ℕ, _+_, _-_, _*_, _/_, _%_, _≤_, _<_}
 use lib.Dec.{leb, ltb}
 use lib.ListN.{getD}
 use Rattle.paths.specs.Graph.{MARK}
+use Rattle.floor.specs.declared.Direction.{Direction}
 use Rattle.floor.specs.declared.Floor.{Floor}
 use Rattle.floor.specs.declared.Place.{Place}
-use Rattle.floor.specs.Direction.{eastOf, southOf}
+use Rattle.floor.specs.Direction.{rowOf, plusOne}
 
 abbrev pub greatestSide : ℕ
 greatestSide = 256
@@ -43,9 +44,13 @@ pub record IsNear (p : Place) : Type 0 where
   pub row : 0 < p .row
   pub row-small : p .row ≤ MARK
 
--- one step in direction d from p: dx columns east and dy rows south (proofs/Rows.antt, moved-east and moved-south)
+-- one step by a row of the table from p: dx columns east and dy rows south (proofs/Rows.antt, moved-east and moved-south)
+abbrev pub movedBy : Place → Direction → Place
+movedBy p r = at (p .column + plusOne (r .dx) - 1) (p .row + plusOne (r .dy) - 1)
+
+-- one step in direction d from p
 abbrev pub moved : Place → ℕ → Place
-moved p d = at (p .column + eastOf d - 1) (p .row + southOf d - 1)
+moved p d = movedBy p (rowOf d)
 
 -- the place with p's column and q's row: beside a diagonal step between them
 abbrev pub corner : Place → Place → Place

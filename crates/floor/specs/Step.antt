@@ -8,6 +8,8 @@ use Rattle.paths.specs.Graph.{Graph}
 use Rattle.floor.specs.declared.Floor.{Floor}
 use Rattle.floor.specs.declared.Into.{Into}
 use Rattle.floor.specs.declared.Into.the-variants.{From, Nothing}
+use Rattle.floor.specs.declared.Onward.{Onward}
+use Rattle.floor.specs.declared.Onward.the-variants.{Enters, Nowhere}
 use Rattle.floor.specs.declared.Place.{Place}
 use Rattle.floor.specs.declared.Reason.the-variants.{NoSuchDirection, LeftOffMap, LeftBlocked, LeavesMap, EntersBlocked, CutsCorner}
 use Rattle.floor.specs.declared.Step.{Step}
@@ -68,6 +70,11 @@ stepOf f m v d =
     (cond (not (ltb v (cells f))) (Barred LeftOffMap)
     (cond (not (isOpen f m (placeOf f v))) (Barred LeftBlocked)
     (entering f m v d (placeOf f v) (moved (placeOf f v) d))))
+
+-- the same without the reason
+abbrev pub onward : Step → Onward
+onward (To v c) = Enters v c
+onward (Barred r) = Nowhere
 
 abbrev pub isTo : Step → Bool
 isTo (To v c) = true

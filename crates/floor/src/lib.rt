@@ -1,7 +1,9 @@
-// The floor: the value that travels beside a map's bytes, the table of directions and the step test; what of a floor is refused, and when a question has passed.
+// The floor: the value that travels beside a map's bytes, the table of directions, the step test and all steps of a cell; what of a floor is refused, and when
+// a question has passed.
 // specs/ says what they mean; docs/PROMISES.md has a row for each public function.
 
 pub mod steps; // steps.rt: the step test
+pub mod neighbours; // neighbours.rt: what stands around a cell, and all its steps
 
 // 01: width and height are 1 to 256 each.
 pub const GREATEST_SIDE: usize = 256;
@@ -86,6 +88,15 @@ pub struct Place {
     pub row: usize,
 }
 
+// The weights of a cell and of its four straight neighbours, 0 where there is none on the map.
+pub struct Around {
+    pub weight: u32,
+    pub north: u32,
+    pub east: u32,
+    pub south: u32,
+    pub west: u32,
+}
+
 // Why a step is not allowed: the first of these that applies.
 pub enum Reason {
     NoSuchDirection,
@@ -100,6 +111,12 @@ pub enum Reason {
 pub enum Step {
     To(usize, u32),
     Barred(Reason),
+}
+
+// The same without the reason, for those who take all steps of a cell and ask for none.
+pub enum Onward {
+    Enters(usize, u32),
+    Nowhere,
 }
 
 // The cell that a step leaves and what the step costs, or that there is none.

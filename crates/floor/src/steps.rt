@@ -1,22 +1,23 @@
-// The step test, which the search and the checks share: 01, "The floor".
+// The step test (01, "The floor"), and what all steps of a cell share with it. A neighbour is found by the table's offsets, so that no more than one cell
+// number is divided, and none where its place is at hand.
 ghost use mathlib.Core.Path.{_≡_};
-ghost use Prim.Native.Nat.{_+_, _-_, _<_, _≤_};
-ghost use lib.Dec.{T};
-ghost use lib.ListN.{length};
+ghost use mathlib.Core.Bool.{_&&_};
+ghost use Prim.Native.Nat.{_+_, _-_, _*_, _<_, _≤_};
+ghost use lib.Dec.{T, leb, ltb};
 ghost use Rattle.paths.specs.Graph.{MARK};
-ghost use Rattle.floor.specs.Direction.{rowOf, plusOne};
-ghost use Rattle.floor.specs.Place.{IsNear, cells, placeOf, moved, onMap, cellAt, isOpen};
-ghost use Rattle.floor.specs.Step.{isDirection, stepCost, cutsCorner, entering, stepOf, intoOf};
+ghost use Rattle.floor.specs.Direction.{rowOf, plusOne, IsSmall};
+ghost use Rattle.floor.specs.Place.{cells, placeOf, cellAt, movedBy, moved, onMap};
+ghost use Rattle.floor.specs.Step.{isDirection, cutsCorner, entering, stepOf};
+ghost use Rattle.floor.specs.Around.{weightAt};
 ghost use Rattle.floor.specs.Refusal.{HasPassed};
 use crate::DIRECTIONS;
 use crate::Direction;
 use crate::Floor;
-use crate::Into;
 use crate::Place;
 use crate::Reason;
 use crate::Step;
 
-fn is_direction(f: Floor, direction: usize) -> bool
+pub(crate) fn is_direction(f: Floor, direction: usize) -> bool
     ensures { λ r. ⌜ r ≡ isDirection f direction ⌝ }
 {
     if 8 <= direction {
@@ -29,28 +30,54 @@ fn is_direction(f: Floor, direction: usize) -> bool
     direction % 2 == 0
 }
 
-fn direction_at(direction: usize) -> Direction
+// A row of the table. By a match and no index: the rows are then constants of the code, where an index would have the whole table written to memory at each
+// look.
+pub(crate) fn direction_at(direction: usize) -> Direction
     requires { ⌜ direction < 8 ⌝ }
-    ensures { λ r. ⌜ r ≡ rowOf direction ⌝ }
+    ensures { λ r. ⌜ (r ≡ rowOf direction) × IsSmall r ⌝ }
 {
-    DIRECTIONS[direction]
+    let table = DIRECTIONS;
+    match direction {
+        0 => table[0],
+        1 => table[1],
+        2 => table[2],
+        3 => table[3],
+        4 => table[4],
+        5 => table[5],
+        6 => table[6],
+        _ => table[7],
+    }
 }
 
-// A column or a row, moved by -1, 0 or 1.
-fn shifted(n: usize, by: i32) -> usize
-    requires { ⌜ (0 < n) × (n ≤ MARK) × (plusOne by ≤ 2) ⌝ }
-    ensures { λ r. ⌜ r ≡ n + plusOne by - 1 ⌝ }
+// A cell's number moved by -1, 0 or 1 strides: a stride is one for a column, and the map's width for a row.
+fn shifted(n: usize, by: i32, stride: usize) -> usize
+    requires { ⌜ (stride ≤ n + plusOne by * stride) × (n ≤ MARK) × (stride ≤ MARK) × (plusOne by ≤ 2) ⌝ }
+    ensures { λ r. ⌜ r ≡ n + plusOne by * stride - stride ⌝ }
 {
     if by == 0 {
         return n;
     }
     if by == 1 {
-        return n + 1;
+        return n + stride;
     }
-    n - 1
+    n - stride
 }
 
-// Public so that a goal's place can be worked out once for many estimates. It is no entry.
+// Whether a column or a row of the map is still one, moved by -1, 0 or 1. Only the side that it moves to is looked at.
+fn stays(n: usize, by: i32, side: usize) -> bool
+    requires { ⌜ (0 < n) × (n ≤ side) × (plusOne by ≤ 2) ⌝ }
+    ensures { λ r. ⌜ r ≡ (ltb 0 (n + plusOne by - 1) && leb (n + plusOne by - 1) side) ⌝ }
+{
+    if by == 0 {
+        return true;
+    }
+    if by == 1 {
+        return n < side;
+    }
+    1 < n
+}
+
+// The one division. Public so that a place can be worked out once for many estimates or steps. It is no entry.
 pub fn place_of(f: Floor, cell: usize) -> Place
     requires { ⌜ (0 < f .width) × (cell < MARK) ⌝ }
     ensures { λ r. ⌜ r ≡ placeOf f cell ⌝ }
@@ -62,140 +89,114 @@ pub fn place_of(f: Floor, cell: usize) -> Place
     }
 }
 
-fn moved_place(p: Place, direction: usize) -> Place
-    requires { ⌜ IsNear p × (direction < 8) ⌝ }
-    ensures { λ r. ⌜ r ≡ moved p direction ⌝ }
+// Whether one step on from a place of the map, by a row of the table, is on the map.
+fn leads_to_map(f: Floor, here: Place, d: Direction) -> bool
+    requires { ⌜ T (onMap f here) × IsSmall d ⌝ }
+    ensures { λ r. ⌜ r ≡ onMap f (movedBy here d) ⌝ }
 {
-    let d = direction_at(direction);
-    let column = shifted(p.column, d.dx);
-    let row = shifted(p.row, d.dy);
-    Place { column, row }
-}
-
-fn is_on_map(f: Floor, p: Place) -> bool
-    ensures { λ r. ⌜ r ≡ onMap f p ⌝ }
-{
-    if p.column == 0 {
-        return false;
-    }
-    if f.width < p.column {
-        return false;
-    }
-    if p.row == 0 {
-        return false;
-    }
-    p.row <= f.height
-}
-
-fn cell_at(f: Floor, map: &[u8], p: Place) -> usize
-    requires { ⌜ HasPassed f (now map) × T (onMap f p) ⌝ }
-    ensures { λ r. ⌜ r ≡ cellAt f p ⌝ }
-{
-    let width = f.width;
-    (p.row - 1) * width + (p.column - 1)
-}
-
-fn is_open(f: Floor, map: &[u8], p: Place) -> bool
-    requires { ⌜ HasPassed f (now map) ⌝ }
-    ensures { λ r. ⌜ r ≡ isOpen f (now (map .entry)) p ⌝ }
-{
-    if is_on_map(f, p) {
-        let cell = cell_at(f, map, p);
-        return 0 < map[cell];
+    if stays(here.column, d.dx, f.width) {
+        return stays(here.row, d.dy, f.height);
     }
     false
 }
 
-fn cuts_corner(f: Floor, map: &[u8], direction: usize, here: Place, there: Place) -> bool
-    requires { ⌜ HasPassed f (now map) ⌝ }
-    ensures { λ r. ⌜ r ≡ cutsCorner f (now (map .entry)) direction here there ⌝ }
+// The cell one step on, where that is on the map.
+pub(crate) fn neighbour(f: Floor, cell: usize, d: Direction) -> usize
+    requires { ⌜ (cell + f .width < MARK) × IsSmall d × T (onMap f (movedBy (placeOf f cell) d)) ⌝ }
+    ensures { λ r. ⌜ r ≡ cellAt f (movedBy (placeOf f cell) d) ⌝ }
 {
-    if direction % 2 == 0 {
-        return false;
-    }
-    let a = Place {
-        column: there.column,
-        row: here.row,
-    };
-    if is_open(f, map, a) {
-        let b = Place {
-            column: here.column,
-            row: there.row,
-        };
-        if is_open(f, map, b) {
-            return false;
-        }
-        return true;
-    }
-    true
+    let southward = shifted(cell, d.dy, f.width);
+    shifted(southward, d.dx, 1)
 }
 
-fn widened(weight: u8) -> u32
+pub(crate) fn widened(weight: u8) -> u32
     ensures { λ r. ⌜ (r ≡ weight) × (r < 256) ⌝ }
 {
     weight as u32
 }
 
-// The cost of a step from `cell` into `to`. The weight bytes are widened before they are added and multiplied.
-fn step_cost(map: &[u8], cell: usize, to: usize, direction: usize) -> u32
-    requires { ⌜ (cell < length (now map)) × (to < length (now map)) × (direction < 8) ⌝ }
-    ensures { λ r. ⌜ r ≡ stepCost (now (map .entry)) direction cell to ⌝ }
+// The weight of the cell one step on, 0 off the map.
+pub(crate) fn weight_beside(f: Floor, map: &[u8], cell: usize, here: Place, d: Direction) -> u32
+    requires { ⌜ HasPassed f (now map) × (cell < cells f) × (here ≡ placeOf f cell) × IsSmall d ⌝ }
+    ensures { λ r. ⌜ r ≡ weightAt f (now (map .entry)) (movedBy here d) ⌝ }
 {
-    let d = direction_at(direction);
-    let left = widened(map[cell]);
-    let entered = widened(map[to]);
+    if leads_to_map(f, here, d) {
+        let to = neighbour(f, cell, d);
+        return widened(map[to]);
+    }
+    0
+}
+
+// The cells beside a diagonal step lie in the two directions next to its own.
+fn cuts_corner(f: Floor, map: &[u8], cell: usize, here: Place, direction: usize) -> bool
+    requires { ⌜ HasPassed f (now map) × (cell < cells f) × (here ≡ placeOf f cell) × (direction < 8) ⌝ }
+    ensures { λ r. ⌜ r ≡ cutsCorner f (now (map .entry)) direction here (moved here direction) ⌝ }
+{
+    if direction % 2 == 0 {
+        return false;
+    }
+    let before = direction_at(direction - 1);
+    if weight_beside(f, map, cell, here, before) == 0 {
+        return true;
+    }
+    let after = direction_at((direction + 1) % 8);
+    weight_beside(f, map, cell, here, after) == 0
+}
+
+// The cost of a step by the weights of the cell left and the cell entered, which are widened before they are added and multiplied.
+pub(crate) fn step_cost(left: u32, entered: u32, d: Direction) -> u32
+    requires { ⌜ (left < 256) × (entered < 256) × IsSmall d ⌝ }
+    ensures { λ r. ⌜ r ≡ d .unit * (left + entered) ⌝ }
+{
     d.unit * (left + entered)
 }
 
 // The step test for a cell of the map and a direction of the floor, where the cell is open.
-fn step_from(f: Floor, map: &[u8], cell: usize, direction: usize) -> Step
-    requires { ⌜ HasPassed f (now map) × (cell < cells f) × T (isDirection f direction) ⌝ }
-    ensures { λ r. ⌜ r ≡ entering f (now (map .entry)) cell direction (placeOf f cell) (moved (placeOf f cell) direction) ⌝ }
+fn step_from(f: Floor, map: &[u8], cell: usize, here: Place, direction: usize) -> Step
+    requires { ⌜ HasPassed f (now map) × (cell < cells f) × (here ≡ placeOf f cell) × T (isDirection f direction) ⌝ }
+    ensures { λ r. ⌜ r ≡ entering f (now (map .entry)) cell direction here (moved here direction) ⌝ }
 {
-    let here = place_of(f, cell);
-    let there = moved_place(here, direction);
-    if is_on_map(f, there) {
-        let to = cell_at(f, map, there);
-        if map[to] == 0 {
+    let d = direction_at(direction);
+    if leads_to_map(f, here, d) {
+        let to = neighbour(f, cell, d);
+        let entered = widened(map[to]);
+        if entered == 0 {
             return Step::Barred(Reason::EntersBlocked);
         }
-        if cuts_corner(f, map, direction, here, there) {
+        if cuts_corner(f, map, cell, here, direction) {
             return Step::Barred(Reason::CutsCorner);
         }
-        let cost = step_cost(map, cell, to, direction);
-        return Step::To(to, cost);
+        let left = widened(map[cell]);
+        return Step::To(to, step_cost(left, entered, d));
     }
     Step::Barred(Reason::LeavesMap)
 }
 
-// Takes any cell number and any direction number. It is no entry: its map has passed 1 to 4.
-pub fn step_test(f: Floor, map: &[u8], cell: usize, direction: usize) -> Step
-    requires { ⌜ HasPassed f (now map) ⌝ }
+// The step test for a cell of the map whose place is at hand. Takes any direction number. It is no entry: its map has passed 1 to 4.
+pub fn step_at(f: Floor, map: &[u8], cell: usize, here: Place, direction: usize) -> Step
+    requires { ⌜ HasPassed f (now map) × (cell < cells f) × (here ≡ placeOf f cell) ⌝ }
     ensures { λ r. ⌜ r ≡ stepOf f (now (map .entry)) cell direction ⌝ }
 {
     if is_direction(f, direction) {
-        if cell < map.len() {
-            if map[cell] == 0 {
-                return Step::Barred(Reason::LeftBlocked);
-            }
-            return step_from(f, map, cell, direction);
+        if map[cell] == 0 {
+            return Step::Barred(Reason::LeftBlocked);
         }
-        return Step::Barred(Reason::LeftOffMap);
+        return step_from(f, map, cell, here, direction);
     }
     Step::Barred(Reason::NoSuchDirection)
 }
 
-// The step that enters `cell` in a direction: it leaves the cell that the step back from `cell` enters, and costs the same. It is no entry either.
-pub fn step_into(f: Floor, map: &[u8], cell: usize, direction: usize) -> Into
+// Takes any cell number and any direction number. It is no entry either.
+pub fn step_test(f: Floor, map: &[u8], cell: usize, direction: usize) -> Step
     requires { ⌜ HasPassed f (now map) ⌝ }
-    ensures { λ r. ⌜ r ≡ intoOf f (now (map .entry)) cell direction ⌝ }
+    ensures { λ r. ⌜ r ≡ stepOf f (now (map .entry)) cell direction ⌝ }
 {
-    if 8 <= direction {
-        return Into::Nothing;
+    if cell < map.len() {
+        let here = place_of(f, cell);
+        return step_at(f, map, cell, here, direction);
     }
-    let back = step_test(f, map, cell, (direction + 4) % 8);
-    let Step::To(from, cost) = back else {
-        return Into::Nothing;
-    };
-    Into::From(from, cost)
+    if is_direction(f, direction) {
+        return Step::Barred(Reason::LeftOffMap);
+    }
+    Step::Barred(Reason::NoSuchDirection)
 }

@@ -15,12 +15,11 @@ use Rattle.settling.proofs.Slices.{occ-place}
 use Rattle.settling.proofs.Counts.{room}
 use Rattle.settling.proofs.Spreads.{stepping, spread-as, listed-inside, begin-spread, offer-listed, offer-joins, expand-none, expand-falls, expanded}
 use Rattle.floor.specs.declared.Floor.{Floor}
-use Rattle.floor.specs.declared.Reason.{Reason}
-use Rattle.floor.specs.declared.Step.the-variants.{To, Barred}
+use Rattle.floor.specs.declared.Onward.the-variants.{Enters, Nowhere}
 use Rattle.floor.specs.Place.{cells}
-use Rattle.floor.specs.Step.{target, stepCost, stepOf, allowed, graph}
+use Rattle.floor.specs.Step.{target, stepCost, stepOf, onward, allowed, graph}
 use Rattle.floor.specs.Refusal.{HasPassed}
-use Rattle.floor.proofs.Allowed.{leads}
+use Rattle.floor.proofs.Allowed.{enters, nowhere}
 use Rattle.floor.proofs.Laws.{lawful}
 use Rattle.spread.specs.Listing.{Listed, Listing, Taking, Begun, CanOffer, Offered, no-less, falls, joins, taken, CanTakeOff}
 use Rattle.spread.proofs.Joining.{joined-list, joined-listed, left-list, left-listed}
@@ -108,9 +107,8 @@ module _ {f : Floor} {m : List ℕ} where
     goes-on l e = rw (add-one d) (record { passed = x .passed; starts = x .starts; listed = l; expanding = e })
 
     -- the step is not allowed
-    pub taking-barred : (r : Reason) → stepOf f m u d ≡ Barred r → Taking f m s u (d + 1) costs work len
-    unfolding allowed
-    taking-barred r e = goes-on (x .listed) (expand-none st s (x .expanding) (λ t. absurd (rw e at t)))
+    pub taking-barred : onward (stepOf f m u d) ≡ Nowhere → Taking f m s u (d + 1) costs work len
+    taking-barred e = goes-on (x .listed) (expand-none st s (x .expanding) (λ t. absurd (nowhere f m u d e t)))
 
     -- the step leads to a cell, which is offered a cost
     module _ (t : T (allowed f m u d)) where
@@ -146,12 +144,12 @@ module _ {f : Floor} {m : List ℕ} where
           (goes-on (joined-listed (x .listed) there entered new taking-room)
           (rw (joined-list (x .listed) there entered new taking-room) (expand-falls st s (x .expanding) t l (take len work ++ (there ∷ [])) w)))
 
-    module _ (to cost : ℕ) (e : stepOf f m u d ≡ To to cost) where
+    module _ (to cost : ℕ) (e : onward (stepOf f m u d) ≡ Enters to cost) where
       pub can-offer : CanOffer costs work len to
-      can-offer = let l = leads f m u d e in rw (l .to) (offer-there (l .steps))
+      can-offer = let l = enters f m u d e in rw (l .to) (offer-there (l .steps))
 
       pub taking-offered : {costs′ work′ : List ℕ} {len′ : ℕ} → Offered costs work len to (getD costs u 0 + cost) costs′ work′ len′ → Taking f m s u (d + 1) costs′ work′ len′
-      taking-offered z = let l = leads f m u d e in offered-there (l .steps) (rw (← l .costs, ← l .to) z)
+      taking-offered z = let l = enters f m u d e in offered-there (l .steps) (rw (← l .costs, ← l .to) z)
 
   -- after its last step
   pub taking-done : {s u : ℕ} {costs work : List ℕ} {len : ℕ} → Taking f m s u 8 costs work len → Listing f m s costs work len

@@ -3,11 +3,13 @@ ghost use mathlib.Core.Path.{_≡_};
 ghost use Prim.Native.Nat.{_+_, _-_, _≤_, _<_};
 ghost use lib.ListN.{length, getD, set};
 ghost use Rattle.paths.specs.Graph.{MARK};
+ghost use Rattle.floor.specs.Around.{aroundOf};
 ghost use Rattle.spread.specs.Listing.{total, Begun, CanBegin, CanOffer, Offered, CanTakeOff, taken, CanStep, Steps, CanExpand, Expanded};
 use answering::rooms::fill;
+use floor::Around;
 use floor::Floor;
 use floor::MARK;
-use floor::Step;
+use floor::Onward;
 
 // Only the start has a cost, and it is the only listed cell.
 pub(crate) fn begin(costs: &mut [u32], work: &mut [u32], start: usize) -> usize
@@ -51,14 +53,15 @@ fn take_step(
     work: &mut [u32],
     len: usize,
     cell: usize,
+    around: Around,
     direction: usize,
 ) -> usize
-    requires { ⌜ CanStep f (now map) (now costs) (now work) len cell direction ⌝ }
+    requires { ⌜ CanStep f (now map) (now costs) (now work) len cell direction × (around ≡ aroundOf f (now map) cell) ⌝ }
     ensures steps { λ r. ⌜ Steps f (now (map .entry)) (now (costs .entry)) (now (work .entry)) len cell direction (direction + 1) (now (costs .exit)) (now (work .exit)) r ⌝ }
     ensures falls { λ r. ⌜ total (now (costs .exit)) + r ≤ total (now (costs .entry)) + len ⌝ }
 {
-    let step = floor::steps::step_test(f, map, cell, direction);
-    let Step::To(to, cost) = step else {
+    let step = floor::neighbours::step_onward(f, map, cell, around, direction);
+    let Onward::Enters(to, cost) = step else {
         return len;
     };
     let sum = (costs[cell] as u64) + (cost as u64);
@@ -78,10 +81,11 @@ fn take_steps(
     ensures steps { λ r. ⌜ Steps f (now (map .entry)) (now (costs .entry)) (now (work .entry)) len cell 0 8 (now (costs .exit)) (now (work .exit)) r ⌝ }
     ensures falls { λ r. ⌜ total (now (costs .exit)) + r ≤ total (now (costs .entry)) + len ⌝ }
 {
+    let around = floor::neighbours::around_of(f, map, cell);
     let mut last = len;
     let mut direction = 0;
     while direction < 8 {
-        last = take_step(f, map, costs, work, last, cell, direction);
+        last = take_step(f, map, costs, work, last, cell, around, direction);
         direction += 1;
     }
     last

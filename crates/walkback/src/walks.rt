@@ -6,18 +6,27 @@ ghost use lib.ListN.{length, drop};
 ghost use Rattle.paths.specs.First.{firstRoute};
 ghost use Rattle.floor.specs.Place.{cells};
 ghost use Rattle.floor.specs.Step.{graph};
+ghost use Rattle.floor.specs.Around.{aroundOf};
 ghost use Rattle.walkback.specs.Walks.{HasCosts, Gives, IsLast, CanWalk};
 use crate::Back;
+use floor::Around;
 use floor::Floor;
 use floor::Into;
 use floor::MARK;
 
 // The step into `cell` in a direction, if it gives the cell its cost. The sum has 64 bits, so that it can't wrap.
-fn giving_step(f: Floor, map: &[u8], costs: &[u32], cell: usize, direction: usize) -> Into
-    requires { ⌜ HasCosts f (now map) (now costs) cell ⌝ }
+fn giving_step(
+    f: Floor,
+    map: &[u8],
+    costs: &[u32],
+    cell: usize,
+    around: Around,
+    direction: usize,
+) -> Into
+    requires { ⌜ HasCosts f (now map) (now costs) cell × (around ≡ aroundOf f (now map) cell) ⌝ }
     ensures { λ r. ⌜ Gives f (now (map .entry)) (now (costs .entry)) cell direction r ⌝ }
 {
-    let step = floor::steps::step_into(f, map, cell, direction);
+    let step = floor::neighbours::step_into(f, map, cell, around, direction);
     let Into::From(from, cost) = step else {
         return Into::Nothing;
     };
@@ -37,9 +46,10 @@ fn last_step(f: Floor, map: &[u8], costs: &[u32], cell: usize) -> Back
     requires { ⌜ HasCosts f (now map) (now costs) cell ⌝ }
     ensures { λ r. ⌜ IsLast f (now (map .entry)) (now (costs .entry)) cell r ⌝ }
 {
+    let around = floor::neighbours::around_of(f, map, cell);
     let mut direction = 0;
     while direction < 8 {
-        let step = giving_step(f, map, costs, cell, direction);
+        let step = giving_step(f, map, costs, cell, around, direction);
         if let Into::From(from, _) = step {
             return Back { direction, from };
         }

@@ -1,4 +1,4 @@
--- One step from a cell of the band: what the step test says is put into the laws of the wave, and the lists into the work room.
+-- One step from a cell of the band: where it leads is put into the laws of the wave, and the lists into the work room.
 use mathlib.Core.Path.{_≡_, _∙_}
 use mathlib.Core.Logic.{inl, inr, ⊎-elim}
 use mathlib.Core.List.{List, [], _∷_, _++_}
@@ -12,11 +12,10 @@ use Rattle.paths.specs.Graph.{Lawful, MARK}
 use Rattle.settling.specs.Wave.{occ, Wave, Taking}
 use Rattle.settling.proofs.Waves.{mark-is, below-least, least-fits, next-inside, next-near, offer-known, offer-new, take-none, take-falls}
 use Rattle.floor.specs.declared.Floor.{Floor}
-use Rattle.floor.specs.declared.Reason.{Reason}
-use Rattle.floor.specs.declared.Step.the-variants.{To, Barred}
+use Rattle.floor.specs.declared.Onward.the-variants.{Enters, Nowhere}
 use Rattle.floor.specs.Place.{cells}
-use Rattle.floor.specs.Step.{target, stepCost, leastStep, greatestStep, stepOf, allowed, graph}
-use Rattle.floor.proofs.Allowed.{leads}
+use Rattle.floor.specs.Step.{target, stepCost, leastStep, greatestStep, stepOf, onward, allowed, graph}
+use Rattle.floor.proofs.Allowed.{enters, nowhere}
 use Rattle.floor.proofs.Laws.{lawful}
 use Rattle.wave.specs.Bands.{CanSee, Seen, no-less, known, new, Halves, InBand, TakingAt}
 use Rattle.settling.proofs.Slices.{slice-push, slice-apart}
@@ -75,9 +74,8 @@ module _ {f : Floor} {m : List ℕ} {s bound at stop other : ℕ} {costs work : 
   stays k = record { band = x .band; before = x .before; first = x .first; taking = rw add-one k }
 
   -- the step is not allowed
-  pub barred : (r : Reason) → stepOf f m cell d ≡ Barred r → TakingAt f m s bound at stop other costs work end cell (d + 1)
-  unfolding allowed
-  barred r e = stays (take-none law s (x .taking) (λ t. absurd (rw e at t)))
+  pub barred : onward (stepOf f m cell d) ≡ Nowhere → TakingAt f m s bound at stop other costs work end cell (d + 1)
+  barred e = stays (take-none law s (x .taking) (λ t. absurd (nowhere f m cell d e t)))
 
   module _ (t : T (allowed f m cell d)) where
     abbrev there : ℕ
@@ -130,10 +128,10 @@ module _ {f : Floor} {m : List ℕ} {s bound at stop other : ℕ} {costs work : 
         lowered (p .halves) (p .first (x .before) ∙ x .first) (rw (p .band, p .later) k)
 
   -- the step leads to a cell, which sees it
-  module _ (to cost : ℕ) (e : stepOf f m cell d ≡ To to cost) where
+  module _ (to cost : ℕ) (e : onward (stepOf f m cell d) ≡ Enters to cost) where
     pub sees : CanSee costs work end to (getD costs cell 0 + cost)
-    sees = let l = leads f m cell d e in rw (← l .costs, ← l .to) at (can-see (l .steps))
+    sees = let l = enters f m cell d e in rw (← l .costs, ← l .to) at (can-see (l .steps))
 
     pub seen : {costs′ work′ : List ℕ} {end′ : ℕ} → Seen costs work end to (getD costs cell 0 + cost) costs′ work′ end′
         → TakingAt f m s bound at stop other costs′ work′ end′ cell (d + 1)
-    seen z = let l = leads f m cell d e in seen-there (l .steps) (rw (← l .costs, ← l .to) z)
+    seen z = let l = enters f m cell d e in seen-there (l .steps) (rw (← l .costs, ← l .to) z)

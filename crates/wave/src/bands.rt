@@ -4,15 +4,17 @@ ghost use Prim.Native.Nat.{_+_, _*_, _≤_, _<_};
 ghost use lib.ListN.{length};
 ghost use Rattle.paths.specs.Graph.{MARK};
 ghost use Rattle.floor.specs.Place.{cells};
+ghost use Rattle.floor.specs.Around.{aroundOf};
 ghost use Rattle.floor.specs.Refusal.{HasPassed};
 ghost use Rattle.wave.specs.Bands.{Begun, CanSee, Seen, CanTake, Took, CanTakeAll, CanVisit, Visited, CanScan, Scanned, CanLook, Looked, CanGoOn, GoneOn, Rounds};
 use crate::Band;
 use crate::Front;
 use answering::rooms::fill;
+use floor::Around;
 use floor::Floor;
 use floor::LEAST_STEP;
 use floor::MARK;
-use floor::Step;
+use floor::Onward;
 use ranks::lists::count_below;
 use ranks::lists::least_cost;
 
@@ -57,13 +59,14 @@ fn take_step(
     work: &mut [u32],
     end: usize,
     cell: usize,
+    around: Around,
     direction: usize,
 ) -> usize
-    requires { ⌜ CanTake f (now map) (now costs) (now work) end cell direction ⌝ }
+    requires { ⌜ CanTake f (now map) (now costs) (now work) end cell direction × (around ≡ aroundOf f (now map) cell) ⌝ }
     ensures { λ r. ⌜ Took f (now (map .entry)) (now (costs .entry)) (now (work .entry)) end cell direction (direction + 1) (now (costs .exit)) (now (work .exit)) r ⌝ }
 {
-    let step = floor::steps::step_test(f, map, cell, direction);
-    let Step::To(to, cost) = step else {
+    let step = floor::neighbours::step_onward(f, map, cell, around, direction);
+    let Onward::Enters(to, cost) = step else {
         return end;
     };
     let base = costs[cell];
@@ -83,10 +86,11 @@ fn take_steps(
     requires { ⌜ CanTakeAll f (now map) (now costs) (now work) end cell limit ⌝ }
     ensures { λ r. ⌜ Took f (now (map .entry)) (now (costs .entry)) (now (work .entry)) end cell 0 8 (now (costs .exit)) (now (work .exit)) r ⌝ }
 {
+    let around = floor::neighbours::around_of(f, map, cell);
     let mut last = end;
     let mut direction = 0;
     while direction < 8 {
-        last = take_step(f, map, costs, work, last, cell, direction);
+        last = take_step(f, map, costs, work, last, cell, around, direction);
         direction += 1;
     }
     last

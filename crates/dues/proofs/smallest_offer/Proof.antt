@@ -11,10 +11,13 @@ use Rattle.dues.proofs.smallest_offer.Statement.{statement}
 use Rattle.dues.proofs.smallest_offer.Tie as tie
 
 abbrev Inv-loop : tie.InvT-loop
-Inv-loop f map costs cell least₀ direction₀ least direction = (offered least ≡ smallest (graph f map) costs cell direction) × (direction ≤ 8)
+Inv-loop f map costs cell around least₀ direction₀ least direction = (offered least ≡ smallest (graph f map) costs cell direction) × (direction ≤ 8)
 
 abbrev μ-loop : tie.MeasureT-loop
-μ-loop f map costs cell least₀ direction₀ least direction = 8 - direction
+μ-loop f map costs cell around least₀ direction₀ least direction = 8 - direction
+
+around-of-requires : tie.Need-around-of-requires Inv-loop μ-loop
+around-of-requires c κs = search needs
 
 loop-holds : tie.Need-loop-holds Inv-loop μ-loop
 loop-holds c = (refl, omega arith)
@@ -46,6 +49,7 @@ smallest-offer-spec =
     (tie.spec
     Inv-loop
     μ-loop
+    around-of-requires
     loop-holds
     offer-from-requires
     smaller-of-requires

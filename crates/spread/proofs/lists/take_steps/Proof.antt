@@ -8,20 +8,25 @@ use Rattle.spread.proofs.lists.take_steps.Statement.{statement}
 use Rattle.spread.proofs.lists.take_steps.Tie as tie
 
 abbrev Inv-loop : tie.InvT-loop
-Inv-loop f map costs₀ work₀ len cell last₀ direction₀ costs work last direction =
+Inv-loop f map costs₀ work₀ len cell around last₀ direction₀ costs work last direction =
     (direction ≤ 8) × Steps f map costs₀ work₀ len cell 0 direction costs work last × (total costs + last ≤ total costs₀ + len) × (length costs ≡ length costs₀)
     × (length work ≡ length work₀)
 
 abbrev μ-loop : tie.MeasureT-loop
-μ-loop f map costs₀ work₀ len cell last₀ direction₀ costs work last direction = 8 - direction
+μ-loop f map costs₀ work₀ len cell around last₀ direction₀ costs work last direction = 8 - direction
+
+around-of-requires : tie.Need-around-of-requires Inv-loop μ-loop
+around-of-requires c κs = c .before .before .before .pre .here .passed
 
 loop-holds : tie.Need-loop-holds Inv-loop μ-loop
 loop-holds c = (omega arith, (λ s x. x), omega arith, refl, refl)
 
 take-step-requires : tie.Need-take-step-requires Inv-loop μ-loop
 take-step-requires c κs =
-    let p = c .before .before .before .before .before .before .before .pre in
-    record { s = p .s; here = c .before .before .before .loop .inv .1 (p .s) (p .here) }
+    let l = c .before .before .before in
+    let a = l .before in
+    let p = a .before .before .before .before .pre in
+    (record { s = p .s; here = l .loop .inv .1 (p .s) (p .here) }, a .around-of .ensures)
 
 add-direction : tie.Need-add-direction Inv-loop μ-loop
 add-direction c = omega arith
@@ -53,6 +58,7 @@ take-steps-spec =
     (tie.spec
     Inv-loop
     μ-loop
+    around-of-requires
     loop-holds
     take-step-requires
     add-direction

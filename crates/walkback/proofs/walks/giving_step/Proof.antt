@@ -38,7 +38,7 @@ leaves c = sym (c .before .before .before .step-into .ensures) ∙ c .before .st
 inside : (c : tie.After-known-told) → c .before .step .given .0 .0 < length (start c .args .costs .now)
 inside c =
     let s = start c in
-    omega (arith, into-inside (s .args .f) (s .args .map .now) (s .args .cell) (s .args .direction) _ _ (leaves c) .1, s .pre .covers)
+    omega (arith, into-inside (s .args .f) (s .args .map .now) (s .args .cell) (s .args .direction) _ _ (leaves c) .1, s .pre .0 .covers)
 
 mul-before : tie.Need-mul-before
 mul-before c = omega (arith, inside c, start c .good)

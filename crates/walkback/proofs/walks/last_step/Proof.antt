@@ -21,14 +21,17 @@ abbrev gives : Floor → List ℕ → List ℕ → ℕ → ℕ → Bool
 gives f m costs v d = meets (offer (graph f m) costs v d) (getD costs v 0)
 
 abbrev Inv-loop : tie.InvT-loop
-Inv-loop f map costs cell direction₀ direction = (lowest (gives f map costs cell) direction ≡ direction) × (direction ≤ 8)
+Inv-loop f map costs cell around direction₀ direction = (lowest (gives f map costs cell) direction ≡ direction) × (direction ≤ 8)
 
 abbrev μ-loop : tie.MeasureT-loop
-μ-loop f map costs cell direction₀ direction = 8 - direction
+μ-loop f map costs cell around direction₀ direction = 8 - direction
 
 -- the test, of a call
 abbrev test : tie.Start Inv-loop μ-loop → ℕ → Bool
 test s = gives (s .args .f) (s .args .map .now) (s .args .costs .now) (s .args .cell)
+
+around-of-requires : tie.Need-around-of-requires Inv-loop μ-loop
+around-of-requires c κs = search needs
 
 loop-holds : tie.Need-loop-holds Inv-loop μ-loop
 loop-holds c = (refl, omega arith)
@@ -46,7 +49,7 @@ returns c =
     let at = t .before .before in
     let r = rw (c .before .step .given .1) at (t .giving-step .ensures) in
     record {
-      direction = sym (lowest-found (test (at .before .before .before)) (at .loop .direction) 8 (at .loop .inv .0) (r .0) (t .before .loop-test .taken));
+      direction = sym (lowest-found (test (at .before .before .before .before)) (at .loop .direction) 8 (at .loop .inv .0) (r .0) (t .before .loop-test .taken));
       from = λ h. r .1;
     }
 
@@ -65,7 +68,7 @@ loop-again c =
     let t = c .before .before in
     let at = t .before .before in
     let r = rw (c .enum-told .given .1) at (t .giving-step .ensures) in
-    (rw add-one (lowest-next (test (at .before .before .before)) (at .loop .direction) (at .loop .inv .0) r), omega (arith, t .before .loop-test .taken))
+    (rw add-one (lowest-next (test (at .before .before .before .before)) (at .loop .direction) (at .loop .inv .0) r), omega (arith, t .before .loop-test .taken))
 
 returns-2 : tie.Need-returns-2 Inv-loop μ-loop
 unfolding lastStep
@@ -73,7 +76,7 @@ returns-2 c =
     let at = c .before in
     let end : at .loop .direction ≡ 8 = omega arith in
     record {
-      direction = end ∙ sym (subst (λ (d : ℕ). lowest (test (at .before .before .before)) d ≡ d) end (at .loop .inv .0));
+      direction = end ∙ sym (subst (λ (d : ℕ). lowest (test (at .before .before .before .before)) d ≡ d) end (at .loop .inv .0));
       from = λ h. absurd (omega arith);
     }
 
@@ -83,6 +86,7 @@ last-step-spec =
     (tie.spec
     Inv-loop
     μ-loop
+    around-of-requires
     loop-holds
     giving-step-requires
     enum-known-step

@@ -4,14 +4,14 @@ use Prim.Native.Nat.{_<_}
 use native.Mathlib.Omega.{arith}
 use borrow.Author.Needs.{needs}
 use lib.ListN.{length}
-use Rattle.floor.specs.Step.{stepOf}
-use Rattle.floor.specs.declared.Step.the-variants.{To}
+use Rattle.floor.specs.declared.Onward.the-variants.{Enters}
+use Rattle.floor.specs.Step.{stepOf, onward}
 use Rattle.wave.proofs.Offers.{cell-inside, barred, sees, seen}
 use Rattle.wave.proofs.bands.take_step.Statement.{statement}
 use Rattle.wave.proofs.bands.take_step.Tie as tie
 
-step-test-requires : tie.Need-step-test-requires
-step-test-requires c κs = c .before .before .before .pre .here .band .passed
+step-onward-requires : tie.Need-step-onward-requires
+step-onward-requires c κs = let s = c .before .before .before in (s .pre .0 .here .band .passed, s .pre .1)
 
 enum-known-step : tie.Need-enum-known-step
 enum-known-step c = search needs
@@ -20,10 +20,10 @@ enum-told : tie.Need-enum-told
 enum-told c = search needs
 
 returns : tie.Need-returns
-returns c = λ s bound at stop other x. barred x _ (sym (c .before .before .step-test .ensures) ∙ c .enum-told .given .1)
+returns c = λ s bound at stop other x. barred x (sym (c .before .before .step-onward .ensures) ∙ c .enum-told .given .1)
 
 inside : (s : tie.Start) → s .args .cell < length (s .args .costs .now)
-inside s = omega (arith, cell-inside (s .pre .here), s .pre .here .band .wave .covers)
+inside s = omega (arith, cell-inside (s .pre .0 .here), s .pre .0 .here .band .wave .covers)
 
 mul-base : tie.Need-mul-base
 mul-base c = omega (arith, inside (c .before .before .before .before .before .before .before))
@@ -33,20 +33,20 @@ slice-read-base c = inside (c .before .before .before .before .before .before .b
 
 told : (c : tie.After-known-told) →
     let s = c .before .before .before .before .before .before .before in
-    stepOf (s .args .f) (s .args .map .now) (s .args .cell) (s .args .direction) ≡ To (c .before .step .given .0 .0) (c .before .step .given .0 .1 .0)
-told c = sym (c .before .before .before .step-test .ensures) ∙ c .before .step .given .1
+    onward (stepOf (s .args .f) (s .args .map .now) (s .args .cell) (s .args .direction)) ≡ Enters (c .before .step .given .0 .0) (c .before .step .given .0 .1 .0)
+told c = sym (c .before .before .before .step-onward .ensures) ∙ c .before .step .given .1
 
 add-see : tie.Need-add-see
 add-see c =
     let k = c .before .before .before in
     let s = k .before .before .before .before .before .before .before in
-    omega (arith, sees (s .pre .here) _ _ (told k) .fits)
+    omega (arith, sees (s .pre .0 .here) _ _ (told k) .fits)
 
 see-requires : tie.Need-see-requires
 see-requires c κs =
     let k = c .before .before .before in
     let s = k .before .before .before .before .before .before .before in
-    sees (s .pre .here) _ _ (told k)
+    sees (s .pre .0 .here) _ _ (told k)
 
 same-length : tie.Need-same-length
 same-length c = search needs
@@ -63,7 +63,7 @@ pub take-step-spec : {M : Type 1} → statement M
 take-step-spec =
     tie.close
     (tie.spec
-    step-test-requires
+    step-onward-requires
     enum-known-step
     enum-told
     returns

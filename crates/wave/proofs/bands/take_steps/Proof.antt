@@ -8,26 +8,33 @@ use Rattle.wave.proofs.bands.take_steps.Statement.{statement}
 use Rattle.wave.proofs.bands.take_steps.Tie as tie
 
 abbrev Inv-loop : tie.InvT-loop
-Inv-loop f map costs₀ work₀ end cell limit last₀ direction₀ costs work last direction =
+Inv-loop f map costs₀ work₀ end cell limit around last₀ direction₀ costs work last direction =
     (direction ≤ 8) × Took f map costs₀ work₀ end cell 0 direction costs work last × (length costs ≡ length costs₀) × (length work ≡ length work₀)
 
 abbrev μ-loop : tie.MeasureT-loop
-μ-loop f map costs₀ work₀ end cell limit last₀ direction₀ costs work last direction = 8 - direction
+μ-loop f map costs₀ work₀ end cell limit around last₀ direction₀ costs work last direction = 8 - direction
+
+around-of-requires : tie.Need-around-of-requires Inv-loop μ-loop
+around-of-requires c κs = c .before .before .before .pre .can .here .band .passed
 
 loop-holds : tie.Need-loop-holds Inv-loop μ-loop
 loop-holds c = (omega arith, (λ s bound at stop other x. x), refl, refl)
 
 take-step-requires : tie.Need-take-step-requires Inv-loop μ-loop
 take-step-requires c κs =
-    let p = c .before .before .before .before .before .before .before .pre .can in
-    record {
-      s = p .s;
-      bound = p .bound;
-      at = p .at;
-      stop = p .stop;
-      other = p .other;
-      here = c .before .before .before .loop .inv .1 (p .s) (p .bound) (p .at) (p .stop) (p .other) (p .here);
-    }
+    let l = c .before .before .before in
+    let a = l .before in
+    let p = a .before .before .before .before .pre .can in (
+      record {
+        s = p .s;
+        bound = p .bound;
+        at = p .at;
+        stop = p .stop;
+        other = p .other;
+        here = l .loop .inv .1 (p .s) (p .bound) (p .at) (p .stop) (p .other) (p .here);
+      },
+      a .around-of .ensures,
+    )
 
 add-direction : tie.Need-add-direction Inv-loop μ-loop
 add-direction c = omega arith
@@ -63,6 +70,7 @@ take-steps-spec =
     (tie.spec
     Inv-loop
     μ-loop
+    around-of-requires
     loop-holds
     take-step-requires
     add-direction
