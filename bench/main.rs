@@ -103,12 +103,14 @@ fn time_call(planner: Planner, question: &Question, rooms: &mut Rooms) -> (Durat
     (clock::now() - begun, answer)
 }
 
-/// The greatest ratio aimed at on a floor of the greatest side.
+/// The greatest ratio aimed at on a floor of the greatest side, for each kind of machine.
 fn aim(kind: Kind, side: usize) -> Option<f64> {
+    let (empty, blocked, maze) = if cfg!(target_arch = "x86_64") { (0.55, 0.70, 0.75) } else { (0.35, 0.45, 0.60) };
     match kind {
         _ if side != 256 => None,
-        Kind::Empty | Kind::ThirdBlocked => Some(0.8),
-        Kind::Maze | Kind::MazeToCorner => Some(1.3),
+        Kind::Empty => Some(empty),
+        Kind::ThirdBlocked => Some(blocked),
+        Kind::Maze | Kind::MazeToCorner => Some(maze),
         Kind::Weights | Kind::Rooms => None,
     }
 }
@@ -119,8 +121,8 @@ fn print_floors(times: &[Timed]) {
     for t in times {
         let aim = match aim(t.kind, t.side) {
             None => String::new(),
-            Some(most) if t.ratio() <= most => format!("{most:.1}, reached"),
-            Some(most) => format!("{most:.1}, missed"),
+            Some(most) if t.ratio() <= most => format!("{most:.2}, reached"),
+            Some(most) => format!("{most:.2}, missed"),
         };
         println!(
             "| {} | {} | {} | {:.3} | {:.3} | {:.2} | {} | {:.1} | {:.1} |",

@@ -24,7 +24,7 @@ extern "C" {
  * be changed for, the minor one with calls, fields at a struct's end or numbers that are new, the patch with all else. It
  * changes here and nowhere else; docs/C.md says what each version brought.
  */
-#define FRADNUMBER_VERSION 20100
+#define FRADNUMBER_VERSION 20101
 
 /*
  * What is wrong: 0, a refusal (1 to 30, and of the route log 61 to 64), a cost table that is not right (40), or a fault in a

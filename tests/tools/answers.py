@@ -206,7 +206,7 @@ def test_usage(folder):
     ):
         expect_run(words, 2, [], ["./run: ", complained])
     expect_run(["--help"], 0, ["usage: ./run", "exit status", "--replay QUESTIONS", "examples", "sqrt(2)", "settle at most N cells, N at least 1"])
-    expect_run(["--version"], 0, ["fradnumber 2.1.0\n"])
+    expect_run(["--version"], 0, ["fradnumber 2.1.1\n"])
     print("tools: wrong usage and missing files")
 
 
