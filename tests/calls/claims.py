@@ -230,6 +230,35 @@ def faults(claims):
     claims.route("there and back", Floor("..."), 0, 0, 280, [2, 6])
 
 
+class Rolled(Floor):
+    """A floor whose rows go on into each other: a neighbour is taken for the cell that its offset leads to, past an edge too."""
+
+    def step(self, cell, direction):
+        if direction > 7 or (self.ways == 4 and direction % 2 == 1):
+            return 41, None, None
+        dx, dy, unit = DIRECTIONS[direction]
+        to = cell + dy * self.width + dx
+        if any(not 0 <= number < len(self.cells) or self.cells[number] == 0 for number in (to, cell + dx, cell + dy * self.width)):
+            return 42, None, None
+        return None, to, unit * (self.cells[cell] + self.cells[to])
+
+
+def edges(claims):
+    """R-5: a neighbour's number is an offset from the cell's, and an offset knows no edges. Each step of each cell of small floors, claimed to lead where its
+    offset does, on the map or past an edge; then of each start the right table, and the one of a floor whose rows go on into each other."""
+    for rows in "...", "./3/5", "12/34", "123/456", "12/34/56", "1@2/345", "@12/34@":
+        for ways in 4, 8:
+            floor = Floor(rows, ways)
+            for cell in (cell for cell, weight in enumerate(floor.cells) if weight):
+                for direction, (dx, dy, unit) in enumerate(DIRECTIONS):
+                    number = cell + dy * floor.width + dx
+                    goal = number if 0 <= number < len(floor.cells) and floor.cells[number] else cell
+                    cost = unit * (floor.cells[cell] + floor.cells[goal])
+                    claims.route("a step by its offset", Floor(rows, ways), cell, goal, cost, [direction])
+                claims.table("right up to the edges", Floor(rows, ways), cell, right_table(floor, cell))
+                claims.table("rows that go on into each other", Floor(rows, ways), cell, right_table(Rolled(rows, ways), cell))
+
+
 def refusals(claims):
     claims.route("no width", Floor("", width=0, height=1, cells=[]), 0, 0, 0, [])
     claims.route("no height", Floor("", width=1, height=0, cells=[]), 0, 0, 0, [])
@@ -353,6 +382,7 @@ def add_calls(made):
     cases_of_01(claims)
     both_cells(claims)
     faults(claims)
+    edges(claims)
     refusals(claims)
     longest_routes(claims)
     tables(claims)

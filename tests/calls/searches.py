@@ -351,6 +351,16 @@ def rows_and_columns():
     return cases
 
 
+def edges():
+    """R-5: a neighbour's number is an offset from the cell's, and an offset knows no edges. Between any two cells of floors where every cell is at one."""
+    cases = []
+    for picture in ("12/34", "123/456", "12/34/56"):
+        size = len(picture.replace("/", ""))
+        for ways in (4, 8):
+            cases += [drawn(picture, ways, start, goal, size) for start in range(size) for goal in range(size)]
+    return cases
+
+
 def equal_costs():
     """Many cells of the same cost in one band: at the cut the cell's number decides."""
     cases = []
@@ -446,7 +456,7 @@ def large_floors():
 
 def all_cases():
     cases = cases_of_01() + single_refusals() + least_limits() + refused_before_15() + joint_refusals() + every_limit() + longer_rooms()
-    cases += rows_and_columns() + equal_costs() + random_floors(random.Random(20), 400) + large_floors() + there_and_back()
+    cases += rows_and_columns() + edges() + equal_costs() + random_floors(random.Random(20), 400) + large_floors() + there_and_back()
     return cases
 
 
