@@ -1,12 +1,13 @@
 """One line of bench/count's table: what was executed with the call less what was executed without it.
 
-The emulator's log has the bytes of each instruction once, under its address, and a line with its address each time that it is executed.
+The emulator's log has the bytes of each instruction once, after its address, and a line with its address each time that it is executed. An emulator that can
+disassemble writes the bytes beside the address and the instruction's name after them; another has a line for the bytes.
 """
 import collections
 import re
 import sys
 
-ADDRESS = re.compile(r"0x([0-9a-f]+): *$")
+ADDRESS = re.compile(r"0x0*([0-9a-f]+): *((?:[0-9a-f]{2} )*)")
 BYTES = re.compile(r"OBJD-T: ([0-9a-f]+)$")
 EXECUTED = re.compile(r"Trace \d+: 0x[0-9a-f]+ \[[0-9a-f]+/0*([0-9a-f]+)/")
 
@@ -28,7 +29,9 @@ def tally(log):
                 executed[found[1]] += found[1] != last
                 last = found[1]
             elif found := ADDRESS.match(line):
-                address = found[1].lstrip("0")
+                address = found[1]
+                if divides(found[2]):
+                    divisions.add(address)
             elif (found := BYTES.match(line)) and divides(found[1]):
                 divisions.add(address)
     return sum(executed.values()), sum(executed[each] for each in divisions)

@@ -46,7 +46,7 @@ pub fn around_of(f: Floor, map: &[u8], cell: usize) -> Around
     }
 }
 
-// The weight of the neighbour in an even direction.
+// The weight of the neighbour in an even direction. Floor, map and cell are here for the contract, which says whose neighbour it is.
 fn straight(f: Floor, map: &[u8], cell: usize, around: Around, direction: usize) -> u32
     requires { ⌜ (cell < cells f) × (around ≡ aroundOf f (now map) cell) × (direction < 8) × (direction % 2 ≡ 0) ⌝ }
     ensures { λ r. ⌜ r ≡ weightBeside f (now (map .entry)) cell direction ⌝ }
