@@ -140,10 +140,11 @@ module _ (f : Floor) (m : List ℕ) (d : ℕ) (p : Place) where
 
     -- and where both are on the map, so is the cell that it enters
     pub diagonal-on-map : T (onMap f (moved p (d - 1))) → T (onMap f (moved p ((d + 1) % 8))) → T (onMap f (moved p d))
-    diagonal-on-map t u =
-        let a = on-map f (moved p (before d)) t in
-        let b = on-map f (moved p (after d)) u in
-        on-map-test f (moved p d) (⊎-elim
-        (λ s. record { west = omega (arith, a .west, s .east); east = omega (arith, a .east, s .east); north = omega (arith, b .north, s .south′); south = omega (arith, b .south, s .south′) })
-        (λ s. record { west = omega (arith, b .west, s .east); east = omega (arith, b .east, s .east); north = omega (arith, a .north, s .south′); south = omega (arith, a .south, s .south′) })
-        (sides d h odd))
+    diagonal-on-map t u = ⊎-elim (λ s. both (before d) (after d) s t u) (λ s. both (after d) (before d) s u t) (sides d h odd)
+      where
+        both : (a b : ℕ) → Sides d a b → T (onMap f (moved p a)) → T (onMap f (moved p b)) → T (onMap f (moved p d))
+        both a b s t u =
+            let x = on-map f (moved p a) t in
+            let y = on-map f (moved p b) u in
+            on-map-test f (moved p d)
+            (record { west = omega (arith, x .west, s .east); east = omega (arith, x .east, s .east); north = omega (arith, y .north, s .south′); south = omega (arith, y .south, s .south′) })

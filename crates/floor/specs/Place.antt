@@ -37,7 +37,7 @@ placeOf f v = at (v % f .width + 1) (v / f .width + 1)
 abbrev pub cellAt : Floor → Place → ℕ
 cellAt f p = (p .row - 1) * f .width + (p .column - 1)
 
--- a place that a step can be taken from: not 0, and far from the greatest number
+-- a place that distances can be taken from: not 0, and far from the greatest number
 pub record IsNear (p : Place) : Type 0 where
   pub column : 0 < p .column
   pub column-small : p .column ≤ MARK
