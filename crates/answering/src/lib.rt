@@ -4,12 +4,14 @@
 pub mod numbers; // numbers.rt: an answer as 01's numbers
 pub mod rooms; // rooms.rt: refusals 1 to 11, and a room filled
 
+use floor::RouteLength;
+
 // What a search answers: 01's table.
 pub enum Answer {
     // the refusal's number and place
     Refused(u32, usize),
-    // settled, the goal's least cost, the route's length
-    Found(usize, u32, usize),
+    // settled, the goal's least cost, how long the route is
+    Found(usize, u32, RouteLength),
     // settled
     None(usize),
     // settled, the floor
@@ -25,4 +27,6 @@ pub struct AnswerNumbers {
     pub settled: u64,
     pub number: u64,
     pub length: u64,
+    pub p: u64,
+    pub q: u64,
 }

@@ -16,14 +16,18 @@ pub fn numbers_of(answer: Answer) -> AnswerNumbers
             settled: 0,
             number: 0,
             length: 0,
+            p: 0,
+            q: 0,
         },
-        Answer::Found(settled, cost, length) => AnswerNumbers {
+        Answer::Found(settled, cost, route) => AnswerNumbers {
             kind: 1,
             refusal: 0,
             place: 0,
             settled: settled as u64,
             number: cost as u64,
-            length: length as u64,
+            length: route.steps as u64,
+            p: route.p as u64,
+            q: route.q as u64,
         },
         Answer::None(settled) => AnswerNumbers {
             kind: 2,
@@ -32,6 +36,8 @@ pub fn numbers_of(answer: Answer) -> AnswerNumbers
             settled: settled as u64,
             number: MARK as u64,
             length: 0,
+            p: 0,
+            q: 0,
         },
         Answer::Stopped(settled, cost) => AnswerNumbers {
             kind: 3,
@@ -40,6 +46,8 @@ pub fn numbers_of(answer: Answer) -> AnswerNumbers
             settled: settled as u64,
             number: cost as u64,
             length: 0,
+            p: 0,
+            q: 0,
         },
     }
 }

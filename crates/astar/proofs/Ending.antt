@@ -19,13 +19,15 @@ use Rattle.settling.proofs.Waves.{value-fits}
 use Rattle.settling.proofs.Spreads.{stepping}
 use Rattle.settling.proofs.Aims.{agrees, near, costs-settled, aimed-same}
 use Rattle.floor.specs.Place.{cells}
+use Rattle.floor.specs.declared.RouteLength.{RouteLength}
 use Rattle.floor.specs.Step.{leastStep, greatestStep, graph}
+use Rattle.floor.specs.Length.{routeLength}
 use Rattle.floor.specs.Estimate.{estimate}
 use Rattle.floor.proofs.Laws.{lawful}
 use Rattle.floor.proofs.Estimating.{estimate-consistent, estimate-home}
 use Rattle.answering.specs.declared.Answer.{Answer}
 use Rattle.answering.specs.declared.Answer.the-variants.{Found, None}
-use Rattle.answering.specs.Answers.{answered}
+use Rattle.answering.specs.Answers.{answerBy}
 use Rattle.walkback.specs.Walks.{CanWalk}
 use Rattle.spread.specs.declared.Aim.{Aim}
 use Rattle.spread.proofs.Passing.{can-aim}
@@ -67,7 +69,7 @@ module _ {a : Aim} {m : List ℕ} {s : ℕ} {costs route : List ℕ} (c : CanFin
   }
 
   -- a row of the costs is the row of the right table
-  finished : (r : Row) → aimedOf (graph (a .floor) m) s costs h (a .goal) ≡ r → {n : Answer} {costs′ route′ : List ℕ} → n ≡ answered (r .kind) r
+  finished : (r : Row) → aimedOf (graph (a .floor) m) s costs h (a .goal) ≡ r → {n : Answer} {costs′ route′ : List ℕ} → n ≡ answerBy (a .floor) m s r
       → costs′ ≡ settledCosts h costs (a .goal) → route′ ≡ r .route ++ drop (length (r .route)) route → Finished (a .floor) m s (a .goal) route n costs′ route′
   finished r e n left written =
       let k = aimed-same (stepping law) s (c .starts) h consistent (a .goal) (c .inside) home (c .ends) table right fits law in
@@ -75,7 +77,7 @@ module _ {a : Aim} {m : List ℕ} {s : ℕ} {costs route : List ℕ} (c : CanFin
       record {
         table = table;
         right = right;
-        answer = n ∙ ap (λ (r : Row). answered (r .kind) r) same;
+        answer = n ∙ ap (answerBy (a .floor) m s) same;
         costs-left = left ∙ costs-settled (stepping law) s (c .starts) h consistent (a .goal) (c .inside) home (c .ends) table right fits;
         route-left = written ∙ ap (λ (r : Row). r .route ++ drop (length (r .route)) route) same;
       }
@@ -106,8 +108,9 @@ module _ {a : Aim} {m : List ℕ} {s : ℕ} {costs route : List ℕ} (c : CanFin
     abbrev way : List ℕ
     way = firstRoute (graph (a .floor) m) s costs (a .goal)
 
-    pub finished-found : {n k : ℕ} {costs′ route′ : List ℕ} → n ≡ settledCount h costs (a .goal) → k ≡ length way → costs′ ≡ settledCosts h costs (a .goal)
-        → route′ ≡ way ++ drop k route → Finished (a .floor) m s (a .goal) route (Found n (getD costs (a .goal) 0) k) costs′ route′
+    pub finished-found : {n : ℕ} {k : RouteLength} {costs′ route′ : List ℕ} → n ≡ settledCount h costs (a .goal) → k ≡ routeLength (a .floor) m s way
+        → costs′ ≡ settledCosts h costs (a .goal) → route′ ≡ way ++ drop (k .steps) route
+        → Finished (a .floor) m s (a .goal) route (Found n (getD costs (a .goal) 0) k) costs′ route′
     unfolding aimedOf
     finished-found e l left written =
         finished (record { kind = Kind.found; settled = settledCount h costs (a .goal); number = getD costs (a .goal) 0; route = way })

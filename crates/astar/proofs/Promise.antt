@@ -11,7 +11,7 @@ use Rattle.floor.specs.Step.{graph}
 use Rattle.floor.proofs.Lines.{number-between}
 use Rattle.answering.specs.declared.Answer.{Answer}
 use Rattle.answering.specs.declared.AnswerNumbers.{AnswerNumbers}
-use Rattle.answering.specs.Answers.{answered, numbersOf}
+use Rattle.answering.specs.Answers.{answerBy, numbersOf}
 use Rattle.answering.specs.Rooms.{Rooms, lentLines}
 use Rattle.astar.specs.Astar.{aimedRow, aimedAfter, AimedTable, Aimed, refused, passed, AimedCall}
 
@@ -36,7 +36,7 @@ module _ (f : Floor) (m : List ℕ) (start goal : ℕ) (r : Rooms) where
   one-aimed (passed e x) z =
       let y = aimed-by-table z e in
       let t = right-unique (graph f m) start (x .table) (y .table) (x .right) (y .right) in (
-        x .answer ∙ ap (λ (t : List ℕ). answered (aimedRow f m start goal t .kind) (aimedRow f m start goal t)) t ∙ sym (y .answer),
+        x .answer ∙ ap (λ (t : List ℕ). answerBy f m start (aimedRow f m start goal t)) t ∙ sym (y .answer),
         x .leaves ∙ ap (λ (t : List ℕ). aimedAfter f m start goal t r) t ∙ sym (y .leaves),
       )
 

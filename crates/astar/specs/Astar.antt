@@ -12,7 +12,7 @@ use Rattle.floor.specs.Estimate.{estimate}
 use Rattle.floor.specs.Refusal.{screen}
 use Rattle.answering.specs.declared.Answer.{Answer}
 use Rattle.answering.specs.declared.AnswerNumbers.{AnswerNumbers}
-use Rattle.answering.specs.Answers.{answered, numbersOf}
+use Rattle.answering.specs.Answers.{answerBy, numbersOf}
 use Rattle.answering.specs.Rooms.{Rooms, lentLines, leaving}
 
 -- the row that the right table of the start gives: the settled cells are those that the octile estimate leaves
@@ -27,7 +27,7 @@ aimedAfter f m start goal t r = leaving f (settledCosts (estimate f goal) t goal
 pub record AimedTable (f : Floor) (m : List ℕ) (start goal : ℕ) (r : Rooms) (a : Answer) (r′ : Rooms) : Type 0 where
   pub table : List ℕ
   pub right : Right (graph f m) start table
-  pub answer : a ≡ answered (aimedRow f m start goal table .kind) (aimedRow f m start goal table)
+  pub answer : a ≡ answerBy f m start (aimedRow f m start goal table)
   pub leaves : r′ ≡ aimedAfter f m start goal table r
 
 -- The promise: a refusal from 1 to 11, which changes nothing, or an answer by the right table

@@ -15,7 +15,7 @@ use Rattle.floor.specs.Step.{graph}
 use Rattle.floor.specs.Estimate.{estimate}
 use Rattle.floor.specs.Refusal.{HasPassed}
 use Rattle.answering.specs.declared.Answer.{Answer}
-use Rattle.answering.specs.Answers.{answered}
+use Rattle.answering.specs.Answers.{answerBy}
 use Rattle.spread.specs.declared.Aim.{Aim}
 use Rattle.spread.specs.Listing.{CanAim}
 use Rattle.astar.specs.Astar.{aimedRow}
@@ -42,6 +42,6 @@ pub record CanFinish (a : Aim) (m : List ℕ) (s : ℕ) (costs route : List ℕ)
 pub record Finished (f : Floor) (m : List ℕ) (s goal : ℕ) (route : List ℕ) (a : Answer) (costs′ route′ : List ℕ) : Type 0 where
   pub table : List ℕ
   pub right : Right (graph f m) s table
-  pub answer : a ≡ answered (aimedRow f m s goal table .kind) (aimedRow f m s goal table)
+  pub answer : a ≡ answerBy f m s (aimedRow f m s goal table)
   pub costs-left : costs′ ≡ settledCosts (estimate f goal) table goal
   pub route-left : route′ ≡ aimedRow f m s goal table .route ++ drop (length (aimedRow f m s goal table .route)) route

@@ -69,7 +69,7 @@ pub(crate) fn finish(
         let settled = keep_settled(aim, costs);
         return Answer::None(settled);
     }
-    let steps = write_route(aim.floor, map, costs, start, goal, route);
+    let length = write_route(aim.floor, map, costs, start, goal, route);
     let settled = keep_settled(aim, costs);
-    Answer::Found(settled, cost, steps)
+    Answer::Found(settled, cost, length)
 }

@@ -7,11 +7,11 @@
 // Then come the entries that are given, room after room; they are repeated up to the room's length. A room that nothing is given for is as the call before
 // left it, at first zeros. So the caller says what a room held before, and what an entry left untouched shows. What a call has no use for is not looked at.
 //
-// The reply is six numbers and then the five rooms, whole, as they were left: if form is 0, these bytes; else two numbers, how many bytes they are and
+// The reply is eight numbers and then the five rooms, whole, as they were left: if form is 0, these bytes; else two numbers, how many bytes they are and
 // their Adler-32. What an answer does not have is 0.
 //
-//   what                       the six numbers
-//    1 fradnumber_search       kind (0 refused, 1 found, 2 none, 3 stopped), refusal, place, settled, number returned, route length
+//   what                       the eight numbers
+//    1 fradnumber_search       kind (0 refused, 1 found, 2 none, 3 stopped), refusal, place, settled, number returned, route length, P, Q
 //    2 check_route             kind (0 refused, 1 holds, 2 fault), refusal or fault, place, cost
 //    3 fradnumber_check_table  kind (0 refused, 1 right, 2 breaks), refusal, place or cell
 //    4 fradnumber_read_map     kind (0 refused, 1 read), refusal, place, width, height, ways
@@ -69,8 +69,11 @@ use wire::put_numbers;
 // The longest room of cells: the greatest floor, its text, and some more.
 const CELLS: usize = 66000;
 
-// The longest reply: six numbers, the three rooms of bytes, and the rooms of numbers, of which the work room has twice the cells.
-const WIRE: usize = 24 + 3 * CELLS + 4 * CELLS + 8 * CELLS;
+// How many numbers a reply begins with.
+const NUMBERS: usize = 8;
+
+// The longest reply: its numbers, the three rooms of bytes, and the rooms of numbers, of which the work room has twice the cells.
+const WIRE: usize = 4 * NUMBERS + 3 * CELLS + 4 * CELLS + 8 * CELLS;
 
 // The head of a call, up to its rooms.
 struct Question {
@@ -140,7 +143,7 @@ fn read_room(most: usize) -> Room
     }
 }
 
-// ---- answers as six numbers
+// ---- answers as eight numbers
 
 // All that is counted here fits; what should not fit shows as the greatest number.
 fn short(n: u64) -> u32 {
@@ -150,32 +153,32 @@ fn short(n: u64) -> u32 {
     4294967295
 }
 
-fn of_route(verdict: RouteVerdict) -> [u32; 6] {
+fn of_route(verdict: RouteVerdict) -> [u32; NUMBERS] {
     match verdict {
-        RouteVerdict::Refused(number, place) => [0, number, short(place as u64), 0, 0, 0],
-        RouteVerdict::Holds(cost) => [1, 0, 0, cost, 0, 0],
-        RouteVerdict::Fault(number, place) => [2, number, short(place as u64), 0, 0, 0],
+        RouteVerdict::Refused(number, place) => [0, number, short(place as u64), 0, 0, 0, 0, 0],
+        RouteVerdict::Holds(cost) => [1, 0, 0, cost, 0, 0, 0, 0],
+        RouteVerdict::Fault(number, place) => [2, number, short(place as u64), 0, 0, 0, 0, 0],
     }
 }
 
 // 40 stands in place of a refusal where a table breaks the rule.
-fn of_table(n: u64) -> [u32; 6] {
+fn of_table(n: u64) -> [u32; NUMBERS] {
     let number = short(n / 4294967296);
     let place = short(n % 4294967296);
     if number == 0 {
-        return [1, 0, 0, 0, 0, 0];
+        return [1, 0, 0, 0, 0, 0, 0, 0];
     }
     if number == 40 {
-        return [2, 0, place, 0, 0, 0];
+        return [2, 0, place, 0, 0, 0, 0, 0];
     }
-    [0, number, place, 0, 0, 0]
+    [0, number, place, 0, 0, 0, 0, 0]
 }
 
 fn kind_of(refusal: u64) -> u32 {
     if refusal == 0 { 1 } else { 0 }
 }
 
-fn of_read(n: ReadNumbers) -> [u32; 6] {
+fn of_read(n: ReadNumbers) -> [u32; NUMBERS] {
     [
         kind_of(n.refusal),
         short(n.refusal),
@@ -183,10 +186,12 @@ fn of_read(n: ReadNumbers) -> [u32; 6] {
         short(n.width),
         short(n.height),
         short(n.ways),
+        0,
+        0,
     ]
 }
 
-fn of_written(n: WrittenNumbers) -> [u32; 6] {
+fn of_written(n: WrittenNumbers) -> [u32; NUMBERS] {
     [
         kind_of(n.refusal),
         short(n.refusal),
@@ -194,12 +199,14 @@ fn of_written(n: WrittenNumbers) -> [u32; 6] {
         short(n.length),
         0,
         0,
+        0,
+        0,
     ]
 }
 
-fn of_used(read: Read) -> [u32; 6] {
+fn of_used(read: Read) -> [u32; NUMBERS] {
     match read {
-        Read::Refused(number, place) => [0, number, short(place as u64), 0, 0, 0],
+        Read::Refused(number, place) => [0, number, short(place as u64), 0, 0, 0, 0, 0],
         Read::Map(f) => [
             1,
             0,
@@ -207,15 +214,26 @@ fn of_used(read: Read) -> [u32; 6] {
             short(f.width as u64),
             short(f.height as u64),
             short(f.ways as u64),
+            0,
+            0,
         ],
     }
 }
 
-fn of_halves(n: u64) -> [u32; 6] {
-    [short(n % 4294967296), short(n / 4294967296), 0, 0, 0, 0]
+fn of_halves(n: u64) -> [u32; NUMBERS] {
+    [
+        short(n % 4294967296),
+        short(n / 4294967296),
+        0,
+        0,
+        0,
+        0,
+        0,
+        0,
+    ]
 }
 
-fn of_six(n: AnswerNumbers) -> [u32; 6] {
+fn of_answer(n: AnswerNumbers) -> [u32; NUMBERS] {
     [
         short(n.kind),
         short(n.refusal),
@@ -223,6 +241,8 @@ fn of_six(n: AnswerNumbers) -> [u32; 6] {
         short(n.settled),
         short(n.number),
         short(n.length),
+        short(n.p),
+        short(n.q),
     ]
 }
 
@@ -234,7 +254,7 @@ fn kind_of_entry(refusal: u64, taken: u64) -> u32 {
     kind_of(refusal)
 }
 
-fn of_entry(n: EntryNumbers) -> [u32; 6] {
+fn of_entry(n: EntryNumbers) -> [u32; NUMBERS] {
     [
         kind_of_entry(n.refusal, n.taken),
         short(n.refusal),
@@ -242,15 +262,19 @@ fn of_entry(n: EntryNumbers) -> [u32; 6] {
         short(n.length),
         short(n.taken),
         0,
+        0,
+        0,
     ]
 }
 
-fn of_entry_written(n: EntryWrittenNumbers) -> [u32; 6] {
+fn of_entry_written(n: EntryWrittenNumbers) -> [u32; NUMBERS] {
     [
         kind_of(n.refusal),
         short(n.refusal),
         short(n.place),
         short(n.length),
+        0,
+        0,
         0,
         0,
     ]
@@ -264,9 +288,9 @@ const NO_ENTRY: u32 = 4294967295;
 // The two records of an entry.
 const RECORDS: usize = 2 * RECORD_SIZE;
 
-fn read_entry(rest: &[u8], route: &mut [u8], records: &mut [u8]) -> [u32; 6] {
+fn read_entry(rest: &[u8], route: &mut [u8], records: &mut [u8]) -> [u32; NUMBERS] {
     if records.len() < RECORDS {
-        return [NO_ENTRY, 0, 0, 0, 0, 0];
+        return [NO_ENTRY, 0, 0, 0, 0, 0, 0, 0];
     }
     let read = fradnumber_read_entry(rest, route);
     let at_answer = put_bytes(records, 0, &read.question);
@@ -274,9 +298,9 @@ fn read_entry(rest: &[u8], route: &mut [u8], records: &mut [u8]) -> [u32; 6] {
     of_entry(read)
 }
 
-fn write_entry(records: &[u8], directions: &[u8], room: &mut [u8]) -> [u32; 6] {
+fn write_entry(records: &[u8], directions: &[u8], room: &mut [u8]) -> [u32; NUMBERS] {
     if records.len() < RECORDS {
-        return [NO_ENTRY, 0, 0, 0, 0, 0];
+        return [NO_ENTRY, 0, 0, 0, 0, 0, 0, 0];
     }
     let question = record_at(records, 0);
     let answer = record_at(records, RECORD_SIZE);
@@ -295,9 +319,9 @@ fn ask(
     work: &mut [u32],
     route: &mut [u8],
     text: &mut [u8],
-) -> [u32; 6] {
+) -> [u32; NUMBERS] {
     if !filled {
-        return [NO_ENTRY, 0, 0, 0, 0, 0];
+        return [NO_ENTRY, 0, 0, 0, 0, 0, 0, 0];
     }
     let w = question.width;
     let h = question.height;
@@ -312,7 +336,7 @@ fn ask(
     let limit = question.limit;
     let what = question.what;
     match what {
-        1 => of_six(fradnumber_search(w, h, ways, map, start, goal, limit, costs, work, route)),
+        1 => of_answer(fradnumber_search(w, h, ways, map, start, goal, limit, costs, work, route)),
         2 => of_route(check_route(floor, map, start, goal, limit, route)),
         3 => of_table(fradnumber_check_table(w, h, ways, map, start, costs)),
         4 => of_read(fradnumber_read_map(text, map)),
@@ -325,14 +349,14 @@ fn ask(
         11 => of_halves(keep_tail(text, long(start), long(goal)) as u64),
         12 => read_entry(text, route, map),
         13 => write_entry(map, route, text),
-        14 => of_six(fradnumber_astar(w, h, ways, map, start, goal, costs, work, route)),
-        _ => [NO_ENTRY, 0, 0, 0, 0, 0],
+        14 => of_answer(fradnumber_astar(w, h, ways, map, start, goal, costs, work, route)),
+        _ => [NO_ENTRY, 0, 0, 0, 0, 0, 0, 0],
     }
 }
 
 // Puts the reply into the wire, and gives the place after it.
 fn put_reply(
-    six: [u32; 6],
+    numbers: [u32; NUMBERS],
     map: &[u8],
     costs: &[u32],
     work: &[u32],
@@ -340,7 +364,7 @@ fn put_reply(
     text: &[u8],
     wire: &mut [u8],
 ) -> usize {
-    let at_map = put_numbers(wire, 0, &six);
+    let at_map = put_numbers(wire, 0, &numbers);
     let at_costs = put_bytes(wire, at_map, map);
     let at_work = put_numbers(wire, at_costs, costs);
     let at_route = put_numbers(wire, at_work, work);
@@ -365,7 +389,7 @@ fn write_reply(form: u32, wire: &[u8], end: usize) -> bool {
 // False if there is nothing to reply, and if the reply cannot be written.
 fn reply(
     form: u32,
-    six: [u32; 6],
+    numbers: [u32; NUMBERS],
     map: &[u8],
     costs: &[u32],
     work: &[u32],
@@ -373,10 +397,10 @@ fn reply(
     text: &[u8],
     wire: &mut [u8; WIRE],
 ) -> bool {
-    if six[0] == NO_ENTRY {
+    if numbers[0] == NO_ENTRY {
         return false;
     }
-    let end = put_reply(six, map, costs, work, route, text, wire);
+    let end = put_reply(numbers, map, costs, work, route, text, wire);
     write_reply(form, wire, end)
 }
 
@@ -396,8 +420,8 @@ fn answer_call(
     let fine = fill_numbers(fine, work, given.work, wire);
     let fine = fill_bytes(fine, route, given.route);
     let filled = fill_bytes(fine, text, given.text);
-    let six = ask(filled, question, map, costs, work, route, text);
-    reply(question.form, six, map, costs, work, route, text, wire)
+    let numbers = ask(filled, question, map, costs, work, route, text);
+    reply(question.form, numbers, map, costs, work, route, text, wire)
 }
 
 // One call, with the parts of the rooms that it asks for. False at the end of the input, and where the call cannot be answered.

@@ -12,6 +12,8 @@ use Rattle.floor.specs.declared.Floor.{Floor}
 use Rattle.floor.specs.declared.Screen.{Screen}
 use Rattle.floor.specs.declared.Screen.the-variants.{Passed, Refused}
 use Rattle.floor.specs.Place.{cells}
+use Rattle.floor.specs.declared.RouteLength.{RouteLength}
+use Rattle.floor.specs.Length.{routeLength}
 use Rattle.floor.specs.Refusal.{screen, questionLines}
 use Rattle.floor.proofs.Screens.{andThen, screen-append}
 use Rattle.floor.proofs.Lines.{number-between}
@@ -39,10 +41,10 @@ module _ (text : List ℕ) (room : ℕ) (f : Floor) (used : reading.numbersOf (M
         le-ltb (length (r .route)) (cells f) (omega (arith, enough .route)),
       )
 
-  not-refused : (k : Kind) (a : Row) → numbersOf (answered k a) .refusal < 9
-  not-refused Kind.found a = omega arith
-  not-refused Kind.none a = omega arith
-  not-refused Kind.stopped a = omega arith
+  not-refused : (measure : List ℕ → RouteLength) (k : Kind) (a : Row) → numbersOf (answered measure k a) .refusal < 9
+  not-refused measure Kind.found a = omega arith
+  not-refused measure Kind.none a = omega arith
+  not-refused measure Kind.stopped a = omega arith
 
   -- a refusal is given by the lines before them or by those after
   before-or-after : {n p : ℕ} (early late : Screen) → andThen (andThen early Passed) late ≡ Refused n p → (early ≡ Refused n p) ⊎ (late ≡ Refused n p)
@@ -54,8 +56,10 @@ module _ (text : List ℕ) (room : ℕ) (f : Floor) (used : reading.numbersOf (M
       → (numbersOf a .refusal < 9) ⊎ (numbersOf a .refusal ≡ 13) ⊎ (numbersOf a .refusal ≡ 15)
   room-enough m question (no-zeros z e l) = inr (inl (ap (λ (x : Answer). numbersOf x .refusal) e))
   room-enough m question (searched z (passed e x)) =
-      let w = rowOf (withWays f (waysIn question)) m (questionIn question) (x .table) in
-      inl (rw (x .answer) (not-refused (w .kind) w))
+      let g = withWays f (waysIn question) in
+      let q = questionIn question in
+      let w = rowOf g m q (x .table) in
+      inl (rw (x .answer) (not-refused (routeLength g m (q .start)) (w .kind) w))
   room-enough m question (searched z (refused n p e k l)) =
       let g = withWays f (waysIn question) in
       let q = questionIn question in

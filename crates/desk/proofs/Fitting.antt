@@ -1,8 +1,9 @@
--- Every number of an answer has room in its field: settled counts and routes are no longer than the floor has cells, costs are at most MARK, and a
--- stopped search has settled as many cells as the question's limit, which came from four bytes.
+-- Every number of an answer has room in its field: settled counts and routes are no longer than the floor has cells, costs are at most MARK, P and Q no more than
+-- the cost that they sum to, and a stopped search has settled as many cells as the question's limit, which came from four bytes.
+use mathlib.Core.Path.{_≡_, sym, _∙_}
 use mathlib.Core.Bool.{_&&_}
 use mathlib.Core.List.{List}
-use Prim.Native.Nat.{ℕ, _+_, _≤_, _<_}
+use Prim.Native.Nat.{ℕ, _+_, _*_, _≤_, _<_}
 use native.Mathlib.Decide.{ℕ-discrete, decLt}
 use native.Mathlib.Omega.{arith}
 use lib.Dec.{eqb, leb, ltb, ltb→lt}
@@ -20,12 +21,15 @@ use Rattle.paths.proofs.Meaning.{reachable-known, one-first-route, first-route-
 use Rattle.floor.specs.declared.Floor.{Floor}
 use Rattle.floor.specs.Place.{cells}
 use Rattle.floor.specs.Refusal.{HasPassed}
+use Rattle.floor.specs.declared.RouteLength.{RouteLength}
 use Rattle.floor.specs.Step.{graph}
+use Rattle.floor.specs.Length.{routeLength}
 use Rattle.floor.proofs.Passing.{facts, few-cells}
 use Rattle.floor.proofs.Laws.{lawful, least-cost-bound}
+use Rattle.floor.proofs.Lengths.{cost-parts}
 use Rattle.floor.proofs.Questions.{question-passed, start-inside, goal-inside}
 use Rattle.answering.specs.declared.Answer.{Answer}
-use Rattle.answering.specs.Answers.{answered, numbersOf}
+use Rattle.answering.specs.Answers.{answerBy, numbersOf}
 use Rattle.answering.specs.Rooms.{Rooms}
 use Rattle.answering.specs.Question.{Question}
 use Rattle.search.specs.Search.{Searched, refused, passed}
@@ -36,8 +40,8 @@ use Rattle.recordlayout.specs.Fields.{InRecord}
 use Rattle.recordlayout.proofs.Records.{number-small, refusal-in-record}
 use Rattle.desk.specs.Desk.{Asked, no-zeros, searched}
 
-abbrev RowFits : Row → Type 0
-RowFits a = InRecord (numbersOf (answered (a .kind) a))
+abbrev RowFits : Floor → List ℕ → ℕ → Row → Type 0
+RowFits f m s a = InRecord (numbersOf (answerBy f m s a))
 
 module _ (f : Floor) (m : List ℕ) (passed : HasPassed f m) (s : ℕ) (start : s < cells f) (t : List ℕ) (right : Right (graph f m) s t) where
   few : cells f < MARK
@@ -55,34 +59,46 @@ module _ (f : Floor) (m : List ℕ) (passed : HasPassed f m) (s : ℕ) (start : 
   listed : length (L t) ≤ cells f
   listed = omega (arith, length-sorted t (length t), count-le (known t) (length t), right .covers)
 
-  route-fits : (goal : ℕ) → goal < cells f → place goal (L t) < length (L t) → length (firstRoute (graph f m) s t goal) < cells f
+  -- the first route to a cell that is listed: its steps, P and Q
+  record RouteFits (goal : ℕ) (l : RouteLength) : Type 0 where
+    steps : l .steps < cells f
+    sums : 70 * l .p + 99 * l .q ≡ getD t goal 0
+
+  route-fits : (goal : ℕ) → goal < cells f → place goal (L t) < length (L t) → RouteFits goal (routeLength f m s (firstRoute (graph f m) s t goal))
   route-fits goal h p = elim (ℕ-discrete (getD t goal 0) MARK) [
     | yes e ↦ absurd (omega (arith, place-absent goal (L t) (λ i. known-is t goal (in-known t goal (length t) i .1) e)))
     | no n ↦
         let law = lawful f m passed in
         let x = reachable-known law s start t right goal h .1 n in
-        least-cost-route-short law s start goal (getD t goal 0) (right .reached goal h n) (firstRoute (graph f m) s t goal)
-        (one-first-route law s start t right goal x .0 .route)
-        (first-route-cost law s start t right goal x)
+        let route = firstRoute (graph f m) s t goal in
+        let first = one-first-route law s start t right goal x .0 .route in
+        let cost = first-route-cost law s start t right goal x in
+        record {
+          steps = least-cost-route-short law s start goal (getD t goal 0) (right .reached goal h n) route first cost;
+          sums = sym (cost-parts f m s route (first .allowed)) ∙ cost;
+        }
   ]
 
-  row-fits : (goal k : ℕ) → goal < cells f → k ≤ MARK → RowFits (answerOf (graph f m) s t goal k)
+  row-fits : (goal k : ℕ) → goal < cells f → k ≤ MARK → RowFits f m s (answerOf (graph f m) s t goal k)
   unfolding answerOf
   row-fits goal k h small =
       let n = length (L t) in
       let i = place goal (L t) in
-      by-cond RowFits (ltb i n && ltb i k) _ _
+      by-cond (RowFits f m s) (ltb i n && ltb i k) _ _
       (λ b.
       let below = ltb→lt i n (T-and (ltb i n) (ltb i k) b .0) in
+      let route = route-fits goal h below in
       record {
         kind-fits = omega arith;
         refusal-fits = omega arith;
         settled-fits = omega (arith, few, listed, below);
         number-fits = entry-fits goal;
-        length-fits = omega (arith, few, route-fits goal h below);
+        length-fits = omega (arith, few, route .steps);
+        p-fits = omega (arith, route .sums, entry-fits goal);
+        q-fits = omega (arith, route .sums, entry-fits goal);
       })
       (λ b.
-      by-cond RowFits (eqb i n && leb n k) _ _
+      by-cond (RowFits f m s) (eqb i n && leb n k) _ _
       (λ c.
       record {
         kind-fits = omega arith;
@@ -90,6 +106,8 @@ module _ (f : Floor) (m : List ℕ) (passed : HasPassed f m) (s : ℕ) (start : 
         settled-fits = omega (arith, few, listed);
         number-fits = omega arith;
         length-fits = omega arith;
+        p-fits = omega arith;
+        q-fits = omega arith;
       })
       (λ c.
       record {
@@ -98,6 +116,8 @@ module _ (f : Floor) (m : List ℕ) (passed : HasPassed f m) (s : ℕ) (start : 
         settled-fits = small;
         number-fits = entry-fits (getD (L t) k 0);
         length-fits = omega arith;
+        p-fits = omega arith;
+        q-fits = omega arith;
       }))
 
 searched-fits : (f : Floor) (m : List ℕ) (q : Question) (r : Rooms) {a : Answer} {r′ : Rooms} → q .limit ≤ MARK → Searched f m q r a r′

@@ -1,9 +1,9 @@
 -- True lengths: a cost is 70 P + 99 Q, so twice its square is compared with T² coefficient by coefficient; two such comparisons chain through a number.
 use mathlib.Core.Path.{_≡_, refl, subst}
-use mathlib.Core.Logic.{_↔_}
+use mathlib.Core.Logic.{_≢_, _↔_}
 use mathlib.Core.Bool.{Bool, true, false, cond}
 use mathlib.Core.List.{List, [], _∷_}
-use Prim.Native.Nat.{ℕ, _+_, _-_, _*_, _≤_, _<_}
+use Prim.Native.Nat.{ℕ, _+_, _-_, _*_, _%_, _≤_, _<_}
 use native.Mathlib.Omega.{arith}
 use native.Mathlib.Nat.{mul-le-mul, sub-zero}
 use native.Mathlib.Decide.{decLt, decLe}
@@ -169,6 +169,28 @@ step-parts d n h = rw (unit-of d h) (go (isDiagonal d))
     go : (b : Bool) → cond b 99 70 * n ≡ 70 * cond b (surd 0 n) (surd n 0) .whole + 99 * cond b (surd 0 n) (surd n 0) .root
     go true = omega arith
     go false = omega arith
+
+-- what a step adds to P and Q is its weight, in one of the two
+pub step-straight : (d n : ℕ) → d % 2 ≡ 0 → stepLength d n ≡ surd n 0
+unfolding stepLength
+step-straight d n e = rw e
+
+pub step-diagonal : (d n : ℕ) → d % 2 ≢ 0 → stepLength d n ≡ surd 0 n
+unfolding stepLength
+step-diagonal d n o = let e : d % 2 ≡ 1 = omega arith in rw e
+
+pub step-summed : (d n : ℕ) → stepLength d n .whole + stepLength d n .root ≡ n
+unfolding stepLength
+step-summed d n = go (isDiagonal d)
+  where
+    go : (b : Bool) → cond b (surd 0 n) (surd n 0) .whole + cond b (surd 0 n) (surd n 0) .root ≡ n
+    go true = omega arith
+    go false = omega arith
+
+-- and that is not more than the step costs
+pub weight-within : (m : List ℕ) (d u v : ℕ) → d < 8 → stepWeight m u v ≤ stepCost m d u v
+unfolding stepCost
+weight-within m d u v h = omega (arith, step-parts d (stepWeight m u v) h, step-summed d (stepWeight m u v))
 
 module _ (f : Floor) (m : List ℕ) where
   -- what a step adds to a route's true length, in 02's words

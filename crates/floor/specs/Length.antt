@@ -3,7 +3,9 @@ use mathlib.Core.Bool.{Bool, true, false, cond}
 use mathlib.Core.List.{List, [], _∷_}
 use Prim.Native.Nat.{ℕ, _+_, _-_, _*_}
 use lib.Dec.{leb}
+use lib.ListN.{length}
 use Rattle.floor.specs.declared.Floor.{Floor}
+use Rattle.floor.specs.declared.RouteLength.{RouteLength}
 use Rattle.floor.specs.Direction.{isDiagonal}
 use Rattle.floor.specs.Step.{stepWeight, target}
 
@@ -43,3 +45,7 @@ stepLength d weight = cond (isDiagonal d) (surd 0 weight) (surd weight 0)
 abbrev pub lengthOf : Floor → List ℕ → ℕ → List ℕ → Surd
 lengthOf f m v [] = surd 0 0
 lengthOf f m v (d ∷ ds) = plus (stepLength d (stepWeight m v (target f v d))) (lengthOf f m (target f v d) ds)
+
+-- how long a route from cell v is: the number of its steps, and P and Q
+abbrev pub routeLength : Floor → List ℕ → ℕ → List ℕ → RouteLength
+routeLength f m v ds = record { steps = length ds; p = lengthOf f m v ds .whole; q = lengthOf f m v ds .root }

@@ -97,6 +97,13 @@ pub struct Around {
     pub west: u32,
 }
 
+// How long a route is: its steps, and P and Q of its true length. `routeLength` in specs/Length.antt.
+pub struct RouteLength {
+    pub steps: usize,
+    pub p: u32,
+    pub q: u32,
+}
+
 // Why a step is not allowed: the first of these that applies.
 pub enum Reason {
     NoSuchDirection,

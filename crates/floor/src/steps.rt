@@ -4,10 +4,11 @@ ghost use mathlib.Core.Path.{_≡_};
 ghost use mathlib.Core.Bool.{_&&_};
 ghost use Prim.Native.Nat.{_+_, _-_, _*_, _<_, _≤_};
 ghost use lib.Dec.{T, leb, ltb};
+ghost use lib.ListN.{length};
 ghost use Rattle.paths.specs.Graph.{MARK};
 ghost use Rattle.floor.specs.Direction.{rowOf, plusOne, IsSmall};
 ghost use Rattle.floor.specs.Place.{cells, placeOf, cellAt, movedBy, moved, onMap};
-ghost use Rattle.floor.specs.Step.{isDirection, cutsCorner, entering, stepOf};
+ghost use Rattle.floor.specs.Step.{isDirection, stepWeight, cutsCorner, entering, stepOf};
 ghost use Rattle.floor.specs.Around.{weightAt};
 ghost use Rattle.floor.specs.Refusal.{HasPassed};
 use crate::DIRECTIONS;
@@ -143,12 +144,28 @@ fn cuts_corner(f: Floor, map: &[u8], cell: usize, here: Place, direction: usize)
     weight_beside(f, map, cell, here, after) == 0
 }
 
-// The cost of a step by the weights of the cell left and the cell entered, which are widened before they are added and multiplied.
+// The weight of a step by the weights of the cell left and the cell entered, which are widened before they are added.
+fn weight_between(left: u32, entered: u32) -> u32
+    requires { ⌜ (left < 256) × (entered < 256) ⌝ }
+    ensures { λ r. ⌜ (r ≡ left + entered) × (r < 512) ⌝ }
+{
+    left + entered
+}
+
+// The weight of a step between two cells of the map, which is what it adds to P or to Q. It is no entry.
+pub fn step_weight(map: &[u8], from: usize, to: usize) -> u32
+    requires { ⌜ (from < length (now map)) × (to < length (now map)) ⌝ }
+    ensures { λ r. ⌜ r ≡ stepWeight (now (map .entry)) from to ⌝ }
+{
+    weight_between(widened(map[from]), widened(map[to]))
+}
+
+// The cost of a step by the weights of the cell left and the cell entered.
 pub(crate) fn step_cost(left: u32, entered: u32, d: Direction) -> u32
     requires { ⌜ (left < 256) × (entered < 256) × IsSmall d ⌝ }
     ensures { λ r. ⌜ r ≡ d .unit * (left + entered) ⌝ }
 {
-    d.unit * (left + entered)
+    d.unit * weight_between(left, entered)
 }
 
 // The step test for a cell of the map and a direction of the floor, where the cell is open.

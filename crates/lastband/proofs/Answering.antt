@@ -15,6 +15,7 @@ use Rattle.settling.proofs.Walking.{plain, agree-plain, near-plain}
 use Rattle.floor.specs.declared.Floor.{Floor}
 use Rattle.floor.specs.Place.{cells}
 use Rattle.floor.specs.Step.{graph}
+use Rattle.floor.specs.Length.{routeLength}
 use Rattle.floor.proofs.Laws.{lawful}
 use Rattle.answering.specs.declared.Answer.{Answer}
 use Rattle.answering.specs.declared.Answer.the-variants.{Found, None}
@@ -22,7 +23,7 @@ use Rattle.wave.specs.declared.Band.{Band}
 use Rattle.ranks.specs.Listed.{AmongCells, keyBelow}
 use Rattle.wave.specs.Bands.{IsBand, Looked, none-open, is-last, is-next, Rounds}
 use Rattle.walkback.specs.Walks.{CanWalk}
-use Rattle.answering.specs.Answers.{answered}
+use Rattle.answering.specs.Answers.{answerBy}
 use Rattle.answering.specs.Question.{Question}
 use Rattle.lastband.specs.Last.{CanStop, StoppedAt, Arrived, CanFinish, Finished}
 use Rattle.wave.proofs.Rounds.{band-top, band-rises, band-wave, band-counted, can-look}
@@ -52,7 +53,7 @@ module _ {f : Floor} {m : List ℕ} {q : Question} {costs work route : List ℕ}
       record {
         table = table f m q costs work (b .front) x;
         right = right f m q costs work (b .front) x;
-        answer = sym (ap (λ (a : Row). answered (a .kind) a) e);
+        answer = sym (ap (answerBy f m (q .start)) e);
         costs-left = sym (ap (λ (a : Row). costsLeft (table f m q costs work (b .front) x) (a .settled)) e ∙ left-all f m q costs work (b .front) x (c .inside) z (r .goal-open) (r .within));
         route-left = sym (ap (λ (a : Row). a .route ++ drop (length (a .route)) route) e);
       }
@@ -105,7 +106,7 @@ module _ {f : Floor} {m : List ℕ} {q : Question} {costs work route : List ℕ}
         record {
           table = t;
           right = right f m q costs work (b .front) x;
-          answer = s .answer ∙ sym (ap (λ (a : Row). answered (a .kind) a) e);
+          answer = s .answer ∙ sym (ap (answerBy f m (q .start)) e);
           costs-left = s .left ∙ sym (ap (λ (a : Row). costsLeft t (a .settled)) e ∙ l);
           route-left = sym (ap (λ (a : Row). a .route ++ drop (length (a .route)) route) e);
         }
@@ -154,8 +155,8 @@ module _ {f : Floor} {m : List ℕ} {q : Question} {costs work route : List ℕ}
             table = t;
             right = right f m q costs work (b .front) x;
             answer =
-                y .answer ∙ ap (λ (n : ℕ). Found (suc n) (getD costs (q .goal) 0) (length (firstRoute (graph f m) (q .start) costs (q .goal)))) p
-                ∙ sym (ap (λ (a : Row). answered (a .kind) a) e);
+                y .answer ∙ ap (λ (n : ℕ). Found (suc n) (getD costs (q .goal) 0) (routeLength f m (q .start) (firstRoute (graph f m) (q .start) costs (q .goal)))) p
+                ∙ sym (ap (answerBy f m (q .start)) e);
             costs-left = y .left ∙ sym (ap (λ (a : Row). costsLeft t (a .settled)) e ∙ l);
             route-left = y .written ∙ sym (ap (λ (a : Row). a .route ++ drop (length (a .route)) route) e);
           }

@@ -12,6 +12,7 @@ use Rattle.settling.specs.Cut.{cut}
 use Rattle.floor.specs.declared.Floor.{Floor}
 use Rattle.floor.specs.Place.{cells}
 use Rattle.floor.specs.Step.{graph}
+use Rattle.floor.specs.Length.{routeLength}
 use Rattle.answering.specs.declared.Answer.{Answer}
 use Rattle.answering.specs.declared.Answer.the-variants.{Found, Stopped}
 use Rattle.wave.specs.declared.Band.{Band}
@@ -19,7 +20,7 @@ use Rattle.ranks.specs.Listed.{AmongCells}
 use Rattle.wave.specs.Bands.{Rounds}
 use Rattle.ranks.specs.Listed.{CanFind, IsNext}
 use Rattle.walkback.specs.Walks.{CanWalk}
-use Rattle.answering.specs.Answers.{rowOf, answered}
+use Rattle.answering.specs.Answers.{rowOf, answerBy}
 use Rattle.answering.specs.Question.{Question}
 
 pub record CanStop (costs work : List ℕ) (limit : ℕ) (b : Band) : Type 0 where
@@ -40,7 +41,7 @@ pub record CanArrive (f : Floor) (m : List ℕ) (s goal place : ℕ) (costs rout
   pub small : place < MARK
 
 pub record Arrived (f : Floor) (m : List ℕ) (s goal place : ℕ) (costs route : List ℕ) (a : Answer) (costs′ route′ : List ℕ) : Type 0 where
-  pub answer : a ≡ Found (suc place) (getD costs goal 0) (length (firstRoute (graph f m) s costs goal))
+  pub answer : a ≡ Found (suc place) (getD costs goal 0) (routeLength f m s (firstRoute (graph f m) s costs goal))
   pub left : costs′ ≡ cut costs (suc (key costs goal))
   pub written : route′ ≡ firstRoute (graph f m) s costs goal ++ drop (length (firstRoute (graph f m) s costs goal)) route
 
@@ -53,6 +54,6 @@ pub record CanFinish (f : Floor) (m : List ℕ) (q : Question) (costs work route
 pub record Finished (f : Floor) (m : List ℕ) (q : Question) (route : List ℕ) (a : Answer) (costs′ route′ : List ℕ) : Type 0 where
   pub table : List ℕ
   pub right : Right (graph f m) (q .start) table
-  pub answer : a ≡ answered (rowOf f m q table .kind) (rowOf f m q table)
+  pub answer : a ≡ answerBy f m (q .start) (rowOf f m q table)
   pub costs-left : costs′ ≡ costsLeft table (rowOf f m q table .settled)
   pub route-left : route′ ≡ rowOf f m q table .route ++ drop (length (rowOf f m q table .route)) route

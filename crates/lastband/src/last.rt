@@ -43,9 +43,9 @@ fn arrive(
     ensures { λ r. ⌜ Arrived f (now (map .entry)) start goal place (now (costs .entry)) (now (route .entry)) r (now (costs .exit)) (now (route .exit)) ⌝ }
 {
     let cost = costs[goal];
-    let steps = write_route(f, map, costs, start, goal, route);
+    let length = write_route(f, map, costs, start, goal, route);
     trim(costs, key_of(cost, goal) + 1);
-    Answer::Found(place + 1, cost, steps)
+    Answer::Found(place + 1, cost, length)
 }
 
 // The answer from the last band, with the costs cut and, if the goal is found, the route written.

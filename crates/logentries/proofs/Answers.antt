@@ -12,9 +12,9 @@ use lib.Seq.{getD-drop}
 use Rattle.paths.specs.Graph.{MARK}
 use Rattle.paths.proofs.Bools.{T-and}
 use Rattle.answering.specs.declared.AnswerNumbers.{AnswerNumbers}
-use Rattle.recordlayout.specs.Record.{numberAt, allZero, answerIn}
+use Rattle.recordlayout.specs.Record.{allZero, answerIn}
 use Rattle.recordlayout.proofs.Zeros.{zero-at}
-use Rattle.logentries.specs.Entry.{greatestRefusal, greatestLength, refusalFits, kindFits, canBeLogged, stepsIn}
+use Rattle.logentries.specs.Entry.{greatestRefusal, greatestLength, refusalFits, noRoute, kindFits, canBeLogged, stepsIn}
 
 module _ (a : List ℕ) {n : AnswerNumbers} (read : n ≡ answerIn a) where
   module _ (refused : n .kind ≡ 0) where
@@ -45,41 +45,51 @@ module _ (a : List ℕ) {n : AnswerNumbers} (read : n ≡ answerIn a) where
     unfolding canBeLogged
     no-zeros e = rw (ne-eqb (answerIn a .kind) 0 other-kind, e)
 
-    pub by-kind : allZero (take 3 (drop 1 a)) ≡ true → canBeLogged a ≡ kindFits (n .kind) (n .number) (n .length)
-    unfolding canBeLogged
-    by-kind e = rw (ne-eqb (answerIn a .kind) 0 other-kind, e, ← read)
+    module _ (zeros : allZero (take 3 (drop 1 a)) ≡ true) where
+      pub no-end-zeros : allZero (drop 24 a) ≡ false → canBeLogged a ≡ false
+      unfolding canBeLogged
+      no-end-zeros e = rw (ne-eqb (answerIn a .kind) 0 other-kind, zeros, e)
 
--- how many directions an answer that can be logged has: up to 4,095 if it is found, and none otherwise
-pub steps-of : (a : List ℕ) → T (canBeLogged a) → ((answerIn a .kind ≡ 1) × (stepsIn a ≤ greatestLength)) ⊎ (stepsIn a ≡ 0)
-unfolding canBeLogged kindFits answerIn
-steps-of a = go (eqb kind 0) (eqb kind 1) refl (eqb kind 2) (eqb kind 3)
+      pub by-kind : allZero (drop 24 a) ≡ true → canBeLogged a ≡ kindFits n
+      unfolding canBeLogged
+      by-kind e = rw (ne-eqb (answerIn a .kind) 0 other-kind, zeros, e, ← read)
+
+-- how many directions an answer of kind 1 to 3 has: up to 4,095 if it is found, and none otherwise
+kind-steps : (n : AnswerNumbers) → T (kindFits n) → ((n .kind ≡ 1) × (n .length ≤ greatestLength)) ⊎ (n .length ≡ 0)
+unfolding kindFits
+kind-steps n = go (eqb (n .kind) 1) refl (eqb (n .kind) 2) (eqb (n .kind) 3)
   where
-    kind : ℕ
-    kind = getD a 0 0
+    none : (b : Bool) → T (b && noRoute n) → n .length ≡ 0
+    none b t = eqb→eq (n .length) 0 (T-and (eqb (n .length) 0) (eqb (n .p) 0 && eqb (n .q) 0) (T-and b (noRoute n) t .1) .0)
 
+    go : (k₁ : Bool) → eqb (n .kind) 1 ≡ k₁ → (k₂ k₃ : Bool)
+        → T
+        (cond k₁ (not (eqb (n .number) MARK) && leb (n .length) greatestLength)
+        (cond k₂ (eqb (n .number) MARK && noRoute n) (cond k₃ (not (eqb (n .number) MARK) && noRoute n) false)))
+        → ((n .kind ≡ 1) × (n .length ≤ greatestLength)) ⊎ (n .length ≡ 0)
+    go true e k₂ k₃ t = inl (eqb-true (n .kind) 1 e, leb→le (n .length) greatestLength (T-and (not (eqb (n .number) MARK)) (leb (n .length) greatestLength) t .1))
+    go false e true k₃ t = inr (none (eqb (n .number) MARK) t)
+    go false e false true t = inr (none (not (eqb (n .number) MARK)) t)
+    go false e false false t = absurd t
+
+-- and so has any answer that can be logged
+pub steps-of : (a : List ℕ) → T (canBeLogged a) → ((answerIn a .kind ≡ 1) × (stepsIn a ≤ greatestLength)) ⊎ (stepsIn a ≡ 0)
+unfolding canBeLogged answerIn
+steps-of a = go (eqb (answerIn a .kind) 0)
+  where
     none : (i : ℕ) → T (allZero (drop 2 a)) → getD a (2 + i) 0 ≡ 0
     none i z = sym (getD-drop 2 a i 0) ∙ zero-at (drop 2 a) i z
 
-    go : (k₀ k₁ : Bool) → eqb kind 1 ≡ k₁ → (k₂ k₃ : Bool)
-        → T
-        (cond k₀ (refusalFits (getD a 1 0) && allZero (drop 2 a))
-        (allZero (take 3 (drop 1 a))
-        && cond k₁ (not (eqb (numberAt a 8) MARK) && leb (numberAt a 12) greatestLength)
-        (cond k₂ (eqb (numberAt a 8) MARK && eqb (numberAt a 12) 0) (cond k₃ (not (eqb (numberAt a 8) MARK) && eqb (numberAt a 12) 0) false))))
-        → ((kind ≡ 1) × (numberAt a 12 ≤ greatestLength)) ⊎ (numberAt a 12 ≡ 0)
-    go true k₁ e k₂ k₃ t =
-        let z = T-and (refusalFits (getD a 1 0)) (allZero (drop 2 a)) t .1 in
-        inr (omega (arith, none 10 z, none 11 z, none 12 z, none 13 z))
-    go false true e k₂ k₃ t =
-        let few = T-and (allZero (take 3 (drop 1 a))) _ t .1 in
-        inl (eqb-true kind 1 e, leb→le (numberAt a 12) greatestLength (T-and (not (eqb (numberAt a 8) MARK)) (leb (numberAt a 12) greatestLength) few .1))
-    go false false e true k₃ t =
-        let few = T-and (allZero (take 3 (drop 1 a))) _ t .1 in
-        inr (eqb→eq (numberAt a 12) 0 (T-and (eqb (numberAt a 8) MARK) (eqb (numberAt a 12) 0) few .1))
-    go false false e false true t =
-        let few = T-and (allZero (take 3 (drop 1 a))) _ t .1 in
-        inr (eqb→eq (numberAt a 12) 0 (T-and (not (eqb (numberAt a 8) MARK)) (eqb (numberAt a 12) 0) few .1))
-    go false false e false false t = absurd (T-and (allZero (take 3 (drop 1 a))) false t .1)
+    no-length : T (allZero (drop 2 a)) → stepsIn a ≡ 0
+    no-length z = omega (arith, none 10 z, none 11 z, none 12 z, none 13 z)
+
+    go : (k : Bool)
+        → T (cond k (refusalFits (answerIn a .refusal) && allZero (drop 2 a)) (allZero (take 3 (drop 1 a)) && (allZero (drop 24 a) && kindFits (answerIn a))))
+        → ((answerIn a .kind ≡ 1) × (stepsIn a ≤ greatestLength)) ⊎ (stepsIn a ≡ 0)
+    go true t = inr (no-length (T-and (refusalFits (answerIn a .refusal)) (allZero (drop 2 a)) t .1))
+    go false t =
+        kind-steps (answerIn a)
+        (T-and (allZero (drop 24 a)) (kindFits (answerIn a)) (T-and (allZero (take 3 (drop 1 a))) (allZero (drop 24 a) && kindFits (answerIn a)) t .1) .1)
 
 pub steps-few : (a : List ℕ) → T (canBeLogged a) → stepsIn a ≤ greatestLength
 steps-few a t = ⊎-elim (λ found. found .1) (λ none. omega arith) (steps-of a t)

@@ -1,4 +1,4 @@
--- An entry of the route log, and its bytes: 02, R-1.
+-- An entry of the route log, and its bytes: 02, R-1 and R-6.
 use mathlib.Core.Path.{_≡_}
 use mathlib.Core.Bool.{Bool, true, false, cond, not, _&&_}
 use mathlib.Core.List.{List, [], _∷_, _++_}
@@ -6,6 +6,7 @@ use Prim.Native.Nat.{ℕ, _+_, _-_, _*_, _/_}
 use lib.Dec.{T, eqb, leb, ltb}
 use lib.ListN.{length, take, drop, replicate}
 use Rattle.paths.specs.Graph.{MARK}
+use Rattle.answering.specs.declared.AnswerNumbers.{AnswerNumbers}
 use Rattle.recordlayout.specs.Record.{recordSize, allZero, answerIn}
 
 -- the question record, the answer record, and the directions of the route
@@ -41,18 +42,23 @@ greatestLength = 4095
 abbrev pub refusalFits : ℕ → Bool
 refusalFits n = ltb 0 n && leb n greatestRefusal
 
--- kind 1 with a cost that isn't MARK and a length up to 4,095, kind 2 with MARK and length 0, or kind 3 with a floor that isn't MARK and length 0
-unfoldable pub kindFits : ℕ → ℕ → ℕ → Bool
-kindFits kind number length =
-    cond (eqb kind 1) (not (eqb number MARK) && leb length greatestLength)
-    (cond (eqb kind 2) (eqb number MARK && eqb length 0)
-    (cond (eqb kind 3) (not (eqb number MARK) && eqb length 0) false))
+-- an answer with no route: length, P and Q are 0
+abbrev pub noRoute : AnswerNumbers → Bool
+noRoute n = eqb (n .length) 0 && (eqb (n .p) 0 && eqb (n .q) 0)
 
--- Which answers can be logged: kind 0, such a refusal number, zeros after it; or refusal number 0, two zeros, and such a kind
+-- kind 1 with a cost that isn't MARK and a length up to 4,095, kind 2 with MARK and no route, or kind 3 with a floor that isn't MARK and no route; P and Q of
+-- kind 1 may be any
+unfoldable pub kindFits : AnswerNumbers → Bool
+kindFits n =
+    cond (eqb (n .kind) 1) (not (eqb (n .number) MARK) && leb (n .length) greatestLength)
+    (cond (eqb (n .kind) 2) (eqb (n .number) MARK && noRoute n)
+    (cond (eqb (n .kind) 3) (not (eqb (n .number) MARK) && noRoute n) false))
+
+-- Which answers can be logged: kind 0, such a refusal number, zeros after it; or refusal number 0, two zeros, eight zeros at the end, and such a kind
 unfoldable pub canBeLogged : List ℕ → Bool
 canBeLogged a =
     let n = answerIn a in
-    cond (eqb (n .kind) 0) (refusalFits (n .refusal) && allZero (drop 2 a)) (allZero (take 3 (drop 1 a)) && kindFits (n .kind) (n .number) (n .length))
+    cond (eqb (n .kind) 0) (refusalFits (n .refusal) && allZero (drop 2 a)) (allZero (take 3 (drop 1 a)) && (allZero (drop 24 a) && kindFits n))
 
 -- how many directions an answer has: as many as its length says, which is 0 for every answer but found
 abbrev pub stepsIn : List ℕ → ℕ

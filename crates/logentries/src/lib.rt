@@ -4,8 +4,9 @@ ghost use mathlib.Core.Path.{_≡_};
 ghost use Prim.Native.Nat.{_+_, _≤_};
 ghost use lib.ListN.{length};
 ghost use Rattle.recordlayout.specs.Record.{recordSize};
-ghost use Rattle.logentries.specs.Entry.{greatestLength, routeSize, routeBytes, kindFits, canBeLogged, allWithin};
+ghost use Rattle.logentries.specs.Entry.{greatestLength, routeSize, routeBytes, noRoute, kindFits, canBeLogged, allWithin};
 ghost use Rattle.putting.specs.Put.{IsPut};
+use answering::AnswerNumbers;
 use floor::MARK;
 use putting::fill;
 use putting::put;
@@ -49,27 +50,40 @@ pub fn all_within(least: u8, greatest: u8, bytes: &[u8]) -> bool
     true
 }
 
-// Kinds 1, 2 and 3 with the number and the length that each may have.
-fn kind_fits(kind: u64, number: u64, length: u64) -> bool
-    ensures { λ r. ⌜ r ≡ kindFits kind number length ⌝ }
+// R-6: an answer other than found has no P and no Q, as it has no length.
+fn no_route(n: AnswerNumbers) -> bool
+    ensures { λ r. ⌜ r ≡ noRoute n ⌝ }
 {
-    if kind == 1 {
+    if n.length == 0 {
+        if n.p == 0 {
+            return n.q == 0;
+        }
+    }
+    false
+}
+
+// Kinds 1, 2 and 3 with the number and the length that each may have. R-6: P and Q of a found answer are not tested.
+fn kind_fits(n: AnswerNumbers) -> bool
+    ensures { λ r. ⌜ r ≡ kindFits n ⌝ }
+{
+    let number = n.number;
+    if n.kind == 1 {
         if number != MARK as u64 {
-            return length <= GREATEST_LENGTH;
+            return n.length <= GREATEST_LENGTH;
         }
         return false;
     }
-    if kind == 2 {
+    if n.kind == 2 {
         if number == MARK as u64 {
-            return length == 0;
+            return no_route(n);
         }
         return false;
     }
-    if kind == 3 {
+    if n.kind == 3 {
         if number == MARK as u64 {
             return false;
         }
-        return length == 0;
+        return no_route(n);
     }
     false
 }
@@ -90,7 +104,9 @@ pub fn can_be_logged(answer: &[u8]) -> bool
         return all_zero(&answer[2..]);
     }
     if all_zero(&answer[1..4]) {
-        return kind_fits(numbers.kind, numbers.number, numbers.length);
+        if all_zero(&answer[24..]) {
+            return kind_fits(numbers);
+        }
     }
     false
 }

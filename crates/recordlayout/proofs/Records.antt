@@ -6,7 +6,7 @@ use Prim.Native.Nat.{ℕ, _+_, _*_, _/_, _%_, _≤_, _<_}
 use native.Mathlib.Nat.{mod-eq-of-lt}
 use native.Mathlib.Omega.{arith}
 use lib.Arith.{mod-mul}
-use lib.ListN.{length, getD}
+use lib.ListN.{length, getD, replicate}
 use Rattle.paths.specs.Graph.{MARK}
 use Rattle.answering.specs.declared.Answer.{Answer}
 use Rattle.answering.specs.declared.Answer.the-variants.{Found}
@@ -20,14 +20,18 @@ pub record-length : (a : Answer) → length (recordOf a) ≡ recordSize
 unfolding recordOf
 record-length a = refl
 
--- 01's example: the question, and what its answer is written as
+-- 01's example in the form that R-6 gives it: the question, and what its answer is written as
 abbrev example : List ℕ
-example = 0 ∷ 0 ∷ 0 ∷ 0 ∷ 2 ∷ 0 ∷ 0 ∷ 0 ∷ 5 ∷ 0 ∷ 0 ∷ 0 ∷ 8 ∷ 0 ∷ 0 ∷ 0 ∷ []
+example = 0 ∷ 0 ∷ 0 ∷ 0 ∷ 2 ∷ 0 ∷ 0 ∷ 0 ∷ 5 ∷ 0 ∷ 0 ∷ 0 ∷ 8 ∷ replicate 19 0
+
+pub example-length : length example ≡ recordSize
+example-length = refl
 
 pub example-question : (questionIn example ≡ question 0 2 5) × (waysIn example ≡ 8) × (endsInZeros example ≡ true)
 example-question = (refl, refl, refl)
 
-pub example-answer : recordOf (Found 5 560 4) ≡ 1 ∷ 0 ∷ 0 ∷ 0 ∷ 5 ∷ 0 ∷ 0 ∷ 0 ∷ 48 ∷ 2 ∷ 0 ∷ 0 ∷ 4 ∷ 0 ∷ 0 ∷ 0 ∷ []
+pub example-answer : recordOf (Found 5 560 (record { steps = 4; p = 8; q = 0 }))
+    ≡ 1 ∷ 0 ∷ 0 ∷ 0 ∷ 5 ∷ 0 ∷ 0 ∷ 0 ∷ 48 ∷ 2 ∷ 0 ∷ 0 ∷ 4 ∷ 0 ∷ 0 ∷ 0 ∷ 8 ∷ 0 ∷ 0 ∷ 0 ∷ 0 ∷ 0 ∷ 0 ∷ 0 ∷ replicate 8 0
 unfolding recordOf
 example-answer = refl
 
@@ -44,22 +48,30 @@ number-back n h =
     omega (arith, two, three, four, mod-eq-of-lt h)
 
 -- and so are the numbers of an answer from its record
-pub answer-back : (n : AnswerNumbers) → InRecord n
-    → (numberAt (recordFor n) 4 ≡ n .settled) × (numberAt (recordFor n) 8 ≡ n .number) × (numberAt (recordFor n) 12 ≡ n .length)
-answer-back n fits = (
-  number-back (n .settled) (omega (arith, fits .settled-fits)),
-  number-back (n .number) (omega (arith, fits .number-fits)),
-  number-back (n .length) (omega (arith, fits .length-fits)),
-)
+pub record ReadsBack (n : AnswerNumbers) (bytes : List ℕ) : Type 0 where
+  pub settled : numberAt bytes 4 ≡ n .settled
+  pub number : numberAt bytes 8 ≡ n .number
+  pub length : numberAt bytes 12 ≡ n .length
+  pub p : numberAt bytes 16 ≡ n .p
+  pub q : numberAt bytes 20 ≡ n .q
 
-same-numbers : (n : AnswerNumbers) {p s m l : ℕ} → p ≡ n .place → s ≡ n .settled → m ≡ n .number → l ≡ n .length
-    → record { kind = n .kind; refusal = n .refusal; place = p; settled = s; number = m; length = l } ≡ n
-same-numbers n p s m l = rw (p, s, m, l)
+pub answer-back : (n : AnswerNumbers) → InRecord n → ReadsBack n (recordFor n)
+answer-back n fits = record {
+  settled = number-back (n .settled) (omega (arith, fits .settled-fits));
+  number = number-back (n .number) (omega (arith, fits .number-fits));
+  length = number-back (n .length) (omega (arith, fits .length-fits));
+  p = number-back (n .p) (omega (arith, fits .p-fits));
+  q = number-back (n .q) (omega (arith, fits .q-fits));
+}
+
+same-numbers : (n : AnswerNumbers) (bytes : List ℕ) → ReadsBack n bytes → {k r a : ℕ} → k ≡ n .kind → r ≡ n .refusal → a ≡ n .place
+    → record { kind = k; refusal = r; place = a; settled = numberAt bytes 4; number = numberAt bytes 8; length = numberAt bytes 12; p = numberAt bytes 16; q = numberAt bytes 20 } ≡ n
+same-numbers n bytes back k r a = rw (k, r, a, back .settled, back .number, back .length, back .p, back .q)
 
 -- all of them at once; a place stands in no record
 pub numbers-back : (n : AnswerNumbers) → InRecord n → n .place ≡ 0 → answerIn (recordFor n) ≡ n
 unfolding answerIn
-numbers-back n fits none = let back = answer-back n fits in same-numbers n (sym none) (back .0) (back .1) (back .2)
+numbers-back n fits none = same-numbers n (recordFor n) (answer-back n fits) refl refl (sym none)
 
 pub refusal-in-record : (n p : ℕ) → n < 256 → InRecord (numbersOf (Answer.Refused n p))
 refusal-in-record n p h = record {
@@ -68,4 +80,6 @@ refusal-in-record n p h = record {
   settled-fits = omega arith;
   number-fits = omega arith;
   length-fits = omega arith;
+  p-fits = omega arith;
+  q-fits = omega arith;
 }

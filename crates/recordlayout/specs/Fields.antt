@@ -1,13 +1,16 @@
 -- The numbers of an answer in the fields of its record. What records mean is in Record.
-use mathlib.Core.List.{List}
-use Prim.Native.Nat.{ℕ, _≤_, _<_}
+use Prim.Native.Nat.{_≤_, _<_}
 use Rattle.paths.specs.Graph.{MARK}
 use Rattle.answering.specs.declared.Answer.{Answer}
 use Rattle.answering.specs.declared.AnswerNumbers.{AnswerNumbers}
 use Rattle.answering.specs.Answers.{numbersOf}
-use Rattle.recordlayout.specs.Record.{recordFor}
 
--- the refusal number has room in its byte
+-- kind and refusal number have room in their bytes
+pub record SmallCodes (n : AnswerNumbers) : Type 0 where
+  pub kind : n .kind < 256
+  pub refusal : n .refusal < 256
+
+-- the refusal number of an answer has; its kind always does
 abbrev pub SmallRefusal : Answer → Type 0
 SmallRefusal a = numbersOf a .refusal < 256
 
@@ -18,7 +21,5 @@ pub record InRecord (n : AnswerNumbers) : Type 0 where
   pub settled-fits : n .settled ≤ MARK
   pub number-fits : n .number ≤ MARK
   pub length-fits : n .length ≤ MARK
-
--- the record of these numbers; a place stands in no record
-abbrev pub recordWith : ℕ → ℕ → ℕ → ℕ → ℕ → List ℕ
-recordWith kind refusal settled number length = recordFor (record { kind = kind; refusal = refusal; place = 0; settled = settled; number = number; length = length })
+  pub p-fits : n .p ≤ MARK
+  pub q-fits : n .q ≤ MARK

@@ -61,5 +61,7 @@ pub fn numbers_in(answer: &[u8]) -> AnswerNumbers
         settled: number_at(answer, 4) as u64,
         number: number_at(answer, 8) as u64,
         length: number_at(answer, 12) as u64,
+        p: number_at(answer, 16) as u64,
+        q: number_at(answer, 20) as u64,
     }
 }

@@ -21,11 +21,12 @@ use Rattle.settling.proofs.Orders.{known-is, in-known, in-at, place-absent}
 use Rattle.floor.specs.declared.Floor.{Floor}
 use Rattle.floor.specs.Place.{cells}
 use Rattle.floor.specs.Step.{graph}
+use Rattle.floor.specs.Length.{routeLength}
 use Rattle.floor.specs.Refusal.{HasPassed}
 use Rattle.floor.proofs.Laws.{lawful, least-cost-bound}
 use Rattle.floor.proofs.Questions.{question-passed, start-inside, goal-inside}
 use Rattle.answering.specs.declared.Answer.{Answer}
-use Rattle.answering.specs.Answers.{answered, numbersOf}
+use Rattle.answering.specs.Answers.{answerBy, numbersOf}
 use Rattle.answering.specs.Rooms.{Rooms}
 use Rattle.answering.specs.Question.{Question}
 use Rattle.search.specs.Search.{Searched}
@@ -50,9 +51,9 @@ steps-numbered {g} law eight u (d ∷ ds) w =
     (steps-numbered law eight (g .to u d) ds (both .1))
 
 -- a row of 01's table whose answer can be logged with its route
-record RowLogs (a : Row) : Type 0 where
-  can : CanLog (answered (a .kind) a)
-  count : numbersOf (answered (a .kind) a) .length ≡ length (a .route)
+record RowLogs (f : Floor) (m : List ℕ) (s : ℕ) (a : Row) : Type 0 where
+  can : CanLog (answerBy f m s a)
+  count : numbersOf (answerBy f m s a) .length ≡ length (a .route)
   right : T (allDirections (a .route))
 
 place-within : (v : ℕ) (l : List ℕ) → place v l ≤ length l
@@ -83,13 +84,13 @@ module _ (f : Floor) (m : List ℕ) (good : HasPassed f m) (few : cells f ≤ su
   goal-known : (goal : ℕ) → place goal (L t) < length (L t) → getD t goal 0 ≢ MARK
   goal-known goal h e = absurd (omega (arith, place-absent goal (L t) (λ i. known-is t goal (in-known t goal (length t) i .1) e)))
 
-  row-logs : (goal k : ℕ) → goal < cells f → RowLogs (answerOf (graph f m) s t goal k)
+  row-logs : (goal k : ℕ) → goal < cells f → RowLogs f m s (answerOf (graph f m) s t goal k)
   unfolding answerOf
   row-logs goal k inside =
       let n = length (L t) in
       let i = place goal (L t) in
       let law = lawful f m good in
-      by-cond RowLogs (ltb i n && ltb i k) _ _
+      by-cond (RowLogs f m s) (ltb i n && ltb i k) _ _
       (λ b.
       let known = goal-known goal (ltb→lt i n (T-and (ltb i n) (ltb i k) b .0)) in
       let there = reachable-known law s start t right goal inside .1 known in
@@ -97,12 +98,12 @@ module _ (f : Floor) (m : List ℕ) (good : HasPassed f m) (few : cells f ≤ su
       let route = firstRoute (graph f m) s t goal in
       let short = least-cost-route-short law s start goal (getD t goal 0) (right .reached goal inside known) route first (first-route-cost law s start t right goal there) in
       record {
-        can = found (i + 1) (getD t goal 0) (length route) (known-cost goal inside known) (omega (arith, short));
+        can = found (i + 1) (getD t goal 0) (routeLength f m s route) (known-cost goal inside known) (omega (arith, short));
         count = refl;
         right = steps-numbered law refl s route (first .allowed);
       })
       (λ b.
-      by-cond RowLogs (eqb i n && leb n k) _ _ (λ c. record { can = nothing n; count = refl; right = tt })
+      by-cond (RowLogs f m s) (eqb i n && leb n k) _ _ (λ c. record { can = nothing n; count = refl; right = tt })
       (λ c.
       let within = limit-within i n k (place-within goal (L t)) b c in
       record { can = stopped k (getD t (getD (L t) k 0) 0) (listed-cost k within); count = refl; right = tt }))

@@ -11,7 +11,7 @@ use Rattle.floor.specs.Step.{graph}
 use Rattle.floor.proofs.Lines.{number-between}
 use Rattle.answering.specs.declared.Answer.{Answer}
 use Rattle.answering.specs.declared.AnswerNumbers.{AnswerNumbers}
-use Rattle.answering.specs.Answers.{rowOf, answered, numbersOf}
+use Rattle.answering.specs.Answers.{rowOf, answerBy, numbersOf}
 use Rattle.answering.specs.Rooms.{Rooms}
 use Rattle.answering.specs.Question.{Question}
 use Rattle.search.specs.Search.{searchLines, after, ByTable, Searched, refused, passed, Called}
@@ -37,7 +37,7 @@ one-search f m q r (refused n p e c l) y = let z = by-refusal y n p e in (c ∙ 
 one-search f m q r (passed e x) z =
     let y = by-table z e in
     let t = right-unique (graph f m) (q .start) (x .table) (y .table) (x .right) (y .right) in (
-      x .answer ∙ ap (λ (t : List ℕ). answered (rowOf f m q t .kind) (rowOf f m q t)) t ∙ sym (y .answer),
+      x .answer ∙ ap (λ (t : List ℕ). answerBy f m (q .start) (rowOf f m q t)) t ∙ sym (y .answer),
       x .leaves ∙ ap (λ (t : List ℕ). after f t (rowOf f m q t) r) t ∙ sym (y .leaves),
     )
 

@@ -13,7 +13,7 @@ use Rattle.floor.specs.Refusal.{Line, line, screen}
 use Rattle.answering.specs.declared.Answer.{Answer}
 use Rattle.answering.specs.declared.AnswerNumbers.{AnswerNumbers}
 use Rattle.answering.specs.Question.{Question}
-use Rattle.answering.specs.Answers.{rowOf, answered, numbersOf}
+use Rattle.answering.specs.Answers.{rowOf, answerBy, numbersOf}
 use Rattle.answering.specs.Rooms.{Rooms, lengthLines, leaving}
 
 -- 15: the limit is 0 (02, R-2)
@@ -35,7 +35,7 @@ after f t a r = leaving f (costsLeft t (a .settled)) (a .route) r
 pub record ByTable (f : Floor) (m : List ℕ) (q : Question) (r : Rooms) (a : Answer) (r′ : Rooms) : Type 0 where
   pub table : List ℕ
   pub right : Right (graph f m) (q .start) table
-  pub answer : a ≡ answered (rowOf f m q table .kind) (rowOf f m q table)
+  pub answer : a ≡ answerBy f m (q .start) (rowOf f m q table)
   pub leaves : r′ ≡ after f table (rowOf f m q table) r
 
 -- The promise: a refusal, which changes nothing, or an answer by the right table

@@ -46,12 +46,14 @@ module _ {g : Graph} {least most : ℕ} (law : Lawful g least most) (s : ℕ) (h
         (λ d k. meets-too costs t (a .there) v d i (λ z. n .known (sym e ∙ z)) (omega (arith, e, n .within)))
         (λ d k. meets-too t costs (a .back) v d i (n .known) (n .within))
 
-    -- the cell that the last step of the first route to v leaves: the same in both tables, near and cheaper
+    -- the cell that the last step of the first route to v leaves: the same in both tables, near, and cheaper by what the step costs
     record Leaves (v : ℕ) : Type 0 where
       step : lastStep g costs v ≡ lastStep g t v
       numbered : lastStep g t v < g .directions
       inside : g .from v (lastStep g t v) < g .cells
       near : Near h top t (g .from v (lastStep g t v))
+      lands : g .to (g .from v (lastStep g t v)) (lastStep g t v) ≡ v
+      sum : getD t (g .from v (lastStep g t v)) 0 + g .cost (g .from v (lastStep g t v)) (lastStep g t v) ≡ getD t v 0
       less : getD t (g .from v (lastStep g t v)) 0 < getD t v 0
 
     leaves : (v : ℕ) → v < g .cells → v ≢ s → Near h top t v → Leaves v
@@ -64,6 +66,8 @@ module _ {g : Graph} {least most : ℕ} (law : Lawful g least most) (s : ℕ) (h
           numbered = law .numbered (x .u) d (x .steps);
           inside = rw e (law .leaves (x .u) d (x .steps));
           near = rw e (record { known = x .known; within = sum-falls (x .u) d v (getD t (x .u) 0) (getD t v 0) (x .steps) (x .lands) (x .sum) (n .within) });
+          lands = rw e (x .lands);
+          sum = rw e (x .sum);
           less = rw e (omega (arith, x .sum, law .at-least (x .u) d (x .steps), law .positive));
         }
 
@@ -109,9 +113,11 @@ pub record Walking (g : Graph) (s goal : ℕ) (costs : List ℕ) (v : ℕ) (ds :
   pub fits : length ds + fuel ≡ g .cells
   pub whole : backward g s costs (g .cells) goal ≡ ds ++ backward g s costs fuel v
 
--- One step more, to a cheaper cell
+-- One step more, to a cell that is cheaper by what the step costs
 pub record Goes (g : Graph) (s goal : ℕ) (costs : List ℕ) (v : ℕ) (ds : List ℕ) : Type 0 where
   pub next : Walking g s goal costs (g .from v (lastStep g costs v)) (ds ++ (lastStep g costs v ∷ []))
+  pub lands : g .to (g .from v (lastStep g costs v)) (lastStep g costs v) ≡ v
+  pub sum : getD costs (g .from v (lastStep g costs v)) 0 + g .cost (g .from v (lastStep g costs v)) (lastStep g costs v) ≡ getD costs v 0
   pub less : getD costs (g .from v (lastStep g costs v)) 0 < getD costs v 0
   pub numbered : lastStep g costs v < g .directions
 
@@ -158,6 +164,7 @@ module _ {g : Graph} {s goal : ℕ} {costs : List ℕ} where
         let x = leaves law s (w .h) (w .consistent) (w .top) i t (w .right) costs (w .agrees) v (w .inside) n (near-too (w .h) (w .top) costs t v e (w .near)) in
         let j : u < g .cells = rw (x .step) (x .inside) in
         let p : getD t u 0 < getD t v 0 = rw (x .step) (x .less) in
+        let paid : getD t u 0 + g .cost u d ≡ getD t v 0 = rw (x .step) (x .sum) in
         let m : Near (w .h) (w .top) t u = rw (x .step) (x .near) in
         let q : getD costs u 0 ≡ getD t u 0 = w .agrees .back u j (m .known) (m .within) in
         let k = backward-goes g s costs (w .fuel) v n (omega (arith, w .enough)) in
@@ -176,6 +183,8 @@ module _ {g : Graph} {s goal : ℕ} {costs : List ℕ} where
             fits = omega (arith, w .fits, k .1, length-append ds (d ∷ []));
             whole = w .whole ∙ ap (λ (l : List ℕ). ds ++ l) (k .2) ∙ sym (append-assoc ds (d ∷ []) (backward g s costs (k .0) u));
           };
+          lands = rw (x .step) (x .lands);
+          sum = omega (arith, paid, q, e);
           less = omega (arith, p, q, e);
           numbered = rw (x .step) (x .numbered);
         }

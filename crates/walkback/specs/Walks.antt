@@ -1,7 +1,7 @@
 -- What the walk back from a goal needs and answers.
 use mathlib.Core.Path.{_≡_}
 use mathlib.Core.List.{List}
-use Prim.Native.Nat.{ℕ, _<_}
+use Prim.Native.Nat.{ℕ, _+_, _<_}
 use lib.Dec.{T}
 use lib.ListN.{length, getD}
 use Rattle.paths.specs.Table.{Right, offer}
@@ -10,8 +10,10 @@ use Rattle.settling.specs.Estimate.{Consistent, AgreeBy, Near}
 use Rattle.floor.specs.declared.Floor.{Floor}
 use Rattle.floor.specs.declared.Into.{Into}
 use Rattle.floor.specs.declared.Into.the-variants.{From, Nothing}
+use Rattle.floor.specs.declared.RouteLength.{RouteLength}
 use Rattle.floor.specs.Place.{cells}
 use Rattle.floor.specs.Step.{graph}
+use Rattle.floor.specs.Length.{Surd}
 use Rattle.floor.specs.Refusal.{HasPassed}
 use Rattle.walkback.specs.declared.Back.{Back}
 
@@ -33,6 +35,10 @@ Gives f m costs v d Nothing = Giving f m costs v d → ⊥
 pub record IsLast (f : Floor) (m costs : List ℕ) (v : ℕ) (r : Back) : Type 0 where
   pub direction : r .direction ≡ lastStep (graph f m) costs v
   pub from : r .direction < 8 → r .from ≡ graph f m .from v (r .direction)
+
+-- how long a route is with a step before it, of that true length
+abbrev pub longerBy : Surd → RouteLength → RouteLength
+longerBy step l = record { steps = l .steps + 1; p = l .p + step .whole; q = l .q + step .root }
 
 -- The costs are those of a right table where cost and estimate together are at most `top`, and the goal is such a cell
 pub record CanWalk (f : Floor) (m : List ℕ) (s goal : ℕ) (costs : List ℕ) : Type 0 where

@@ -1,18 +1,23 @@
 // The walk back from the goal: at each cell the step into it that gives it its cost, the lowest direction first. That is the first of the least-cost routes.
+// Its steps, P and Q are summed as the walk meets them.
 ghost use mathlib.Core.Path.{_≡_};
 ghost use mathlib.Core.List.{_++_, reverse};
-ghost use Prim.Native.Nat.{_≤_};
+ghost use Prim.Native.Nat.{_+_, _≤_, _<_};
 ghost use lib.ListN.{length, drop};
+ghost use Rattle.paths.specs.Graph.{MARK};
 ghost use Rattle.paths.specs.First.{firstRoute};
 ghost use Rattle.floor.specs.Place.{cells};
 ghost use Rattle.floor.specs.Step.{graph};
 ghost use Rattle.floor.specs.Around.{aroundOf};
-ghost use Rattle.walkback.specs.Walks.{HasCosts, Gives, IsLast, CanWalk};
+ghost use Rattle.floor.specs.Length.{stepLength, routeLength};
+ghost use Rattle.walkback.specs.Walks.{HasCosts, Gives, IsLast, longerBy, CanWalk};
 use crate::Back;
 use floor::Around;
 use floor::Floor;
 use floor::Into;
 use floor::MARK;
+use floor::RouteLength;
+use floor::steps::step_weight;
 
 // The step into `cell` in a direction, if it gives the cell its cost. The sum has 64 bits, so that it can't wrap.
 fn giving_step(
@@ -61,7 +66,27 @@ fn last_step(f: Floor, map: &[u8], costs: &[u32], cell: usize) -> Back
     }
 }
 
-// Writes the route's directions, the last one first, as the walk meets them, and gives their number.
+// How long a route is with one step more: its weight is summed in P if it is straight, in Q if it is diagonal.
+fn longer(summed: RouteLength, direction: usize, weight: u32) -> RouteLength
+    requires { ⌜ (summed .steps < MARK) × (summed .p + summed .q + weight ≤ MARK) ⌝ }
+    ensures { λ r. ⌜ r ≡ longerBy (stepLength direction weight) summed ⌝ }
+{
+    let steps = summed.steps + 1;
+    if direction % 2 == 0 {
+        return RouteLength {
+            steps,
+            p: summed.p + weight,
+            q: summed.q,
+        };
+    }
+    RouteLength {
+        steps,
+        p: summed.p,
+        q: summed.q + weight,
+    }
+}
+
+// Writes the route's directions, the last one first, as the walk meets them, and gives how long the route is.
 fn write_back(
     f: Floor,
     map: &[u8],
@@ -69,24 +94,30 @@ fn write_back(
     start: usize,
     goal: usize,
     route: &mut [u8],
-) -> usize
+) -> RouteLength
     requires { ⌜ CanWalk f (now map) start goal (now costs) × (cells f ≤ length (now route)) ⌝ }
-    ensures steps { λ r. ⌜ r ≡ length (firstRoute (graph f (now (map .entry))) start (now (costs .entry)) goal) ⌝ }
-    ensures written { λ r. ⌜ now (route .exit) ≡ reverse (firstRoute (graph f (now (map .entry))) start (now (costs .entry)) goal) ++ drop r (now (route .entry)) ⌝ }
+    ensures measured { λ r. ⌜ r ≡ routeLength f (now (map .entry)) start (firstRoute (graph f (now (map .entry))) start (now (costs .entry)) goal) ⌝ }
+    ensures written { λ r. ⌜ now (route .exit) ≡ reverse (firstRoute (graph f (now (map .entry))) start (now (costs .entry)) goal) ++ drop (r .steps) (now (route .entry)) ⌝ }
 {
     let mut cell = goal;
-    let mut n = 0;
+    let mut length = RouteLength {
+        steps: 0,
+        p: 0,
+        q: 0,
+    };
     while cell != start {
         let step = last_step(f, map, costs, cell);
         let direction = step.direction;
-        route[n] = direction as u8;
-        cell = step.from;
-        n += 1;
+        let from = step.from;
+        let at = length.steps;
+        route[at] = direction as u8;
+        length = longer(length, direction, step_weight(map, from, cell));
+        cell = from;
     }
-    n
+    length
 }
 
-// Writes the first route, from the start onwards, and gives its length. One walk does: what it wrote is turned round.
+// Writes the first route, from the start onwards, and gives how long it is. One walk does: what it wrote is turned round.
 pub fn write_route(
     f: Floor,
     map: &[u8],
@@ -94,12 +125,13 @@ pub fn write_route(
     start: usize,
     goal: usize,
     route: &mut [u8],
-) -> usize
+) -> RouteLength
     requires { ⌜ CanWalk f (now map) start goal (now costs) × (cells f ≤ length (now route)) ⌝ }
-    ensures steps { λ r. ⌜ r ≡ length (firstRoute (graph f (now (map .entry))) start (now (costs .entry)) goal) ⌝ }
-    ensures written { λ r. ⌜ now (route .exit) ≡ firstRoute (graph f (now (map .entry))) start (now (costs .entry)) goal ++ drop r (now (route .entry)) ⌝ }
+    ensures measured { λ r. ⌜ r ≡ routeLength f (now (map .entry)) start (firstRoute (graph f (now (map .entry))) start (now (costs .entry)) goal) ⌝ }
+    ensures written { λ r. ⌜ now (route .exit) ≡ firstRoute (graph f (now (map .entry))) start (now (costs .entry)) goal ++ drop (r .steps) (now (route .entry)) ⌝ }
 {
-    let n = write_back(f, map, costs, start, goal, route);
-    bytes::reverse(route, 0, n);
-    n
+    let length = write_back(f, map, costs, start, goal, route);
+    let steps = length.steps;
+    bytes::reverse(route, 0, steps);
+    length
 }

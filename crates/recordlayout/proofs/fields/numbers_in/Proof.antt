@@ -40,6 +40,18 @@ number-at-requires-3 c κs = search needs
 cast-t14 : tie.Need-cast-t14
 cast-t14 c = search needs
 
+number-at-requires-4 : tie.Need-number-at-requires-4
+number-at-requires-4 c κs = search needs
+
+cast-t16 : tie.Need-cast-t16
+cast-t16 c = search needs
+
+number-at-requires-5 : tie.Need-number-at-requires-5
+number-at-requires-5 c κs = search needs
+
+cast-t18 : tie.Need-cast-t18
+cast-t18 c = search needs
+
 returns : tie.Need-returns
 unfolding answerIn
 returns c = cc
@@ -60,4 +72,8 @@ numbers-in-spec =
     cast-t12
     number-at-requires-3
     cast-t14
+    number-at-requires-4
+    cast-t16
+    number-at-requires-5
+    cast-t18
     returns)
