@@ -24,19 +24,20 @@ use Rattle.floor.specs.declared.Floor.{Floor}
 use Rattle.floor.specs.declared.Screen.the-variants.{Passed}
 use Rattle.floor.specs.Place.{cells}
 use Rattle.floor.specs.Step.{leastStep, greatestStep, graph}
+use Rattle.floor.specs.Length.{surd}
 use Rattle.floor.specs.Estimate.{estimate}
 use Rattle.floor.specs.Refusal.{HasPassed, screen, questionLines}
 use Rattle.floor.proofs.Laws.{lawful}
 use Rattle.floor.proofs.Questions.{question-passed, start-inside, goal-inside}
 use Rattle.answering.specs.declared.Answer.{Answer}
 use Rattle.answering.specs.declared.AnswerNumbers.{AnswerNumbers}
-use Rattle.answering.specs.Answers.{answered, numbersOf}
+use Rattle.answering.specs.Answers.{numbersOf}
 use Rattle.answering.specs.Rooms.{Rooms, lentLines}
 use Rattle.answering.proofs.Lending.{asked-well, enough-costs, enough-work, enough-route}
 use Rattle.astar.specs.Astar.{aimedRow, AimedTable, Aimed, refused, passed}
 use Rattle.tender.specs.SearchTable.{BeginsWithRoute, SameLengths}
 use Rattle.tender.specs.AstarTable.{Settles, AstarAnswers}
-use Rattle.tender.proofs.Rowed.{answered-length, row-answer, row-kind, row-settled, row-no-refusal}
+use Rattle.tender.proofs.Rowed.{FoundWay, told, told-length, row-answer, row-kind, row-settled, row-no-refusal}
 use Rattle.tender.proofs.Leaving.{first-least, first-short, Left, left-rooms, lengths-kept, way-kept}
 
 module _ {f : Floor} {m : List ℕ} {start goal : ℕ} {r : Rooms} {a : Answer} {r′ : Rooms} (x : AimedTable f m start goal r a r′)
@@ -87,8 +88,8 @@ module _ {f : Floor} {m : List ℕ} {start goal : ℕ} {r : Rooms} {a : Answer} 
   empty = aimed-empty (graph f m) start (x .table) h goal
 
   -- the numbers of an answer of that kind
-  numbers : (k : Kind) → row .kind ≡ k → numbersOf a ≡ numbersOf (answered k row)
-  numbers k e = ap numbersOf (row-answer row (x .answer) k e)
+  numbers : (k : Kind) → row .kind ≡ k → numbersOf a ≡ numbersOf (told f m start k row)
+  numbers k e = ap numbersOf (row-answer f m start row (x .answer) k e)
 
   route-left : r′ .route ≡ row .route ++ drop (length (row .route)) (r .route)
   route-left = ap (λ (z : Rooms). z .route) (x .leaves)
@@ -96,10 +97,16 @@ module _ {f : Floor} {m : List ℕ} {start goal : ℕ} {r : Rooms} {a : Answer} 
   least : (e : row .kind ≡ Kind.found) → Least (graph f m) start goal (numbersOf a .number)
   least e = rw (ap (λ (n : AnswerNumbers). n .number) (numbers Kind.found e), ← cost e) (first-least (first e))
 
-  begins : row .kind ≡ Kind.found → BeginsWithRoute f m start goal (numbersOf a .length) (r .route) (r′ .route)
+  begins : row .kind ≡ Kind.found → BeginsWithRoute f m start goal (numbersOf a) (r .route) (r′ .route)
   begins e =
       let n : numbersOf a .length ≡ length (row .route) = ap (λ (n : AnswerNumbers). n .length) (numbers Kind.found e) in
-      record { way = row .route; first = first e; steps = n; leaves = rw n route-left }
+      record {
+        way = row .route;
+        first = first e;
+        steps = n;
+        sums = ap (λ (n : AnswerNumbers). surd (n .p) (n .q)) (numbers Kind.found e);
+        leaves = rw n route-left;
+      }
 
   -- which cells are settled
   settles : (v : ℕ) → v < cells f → T (isSettled h (x .table) goal v) ↔ Settles f m start goal v
@@ -133,7 +140,7 @@ module _ {f : Floor} {m : List ℕ} {start goal : ℕ} {r : Rooms} {a : Answer} 
 
   -- the answer's count
   pub settled-row : numbersOf a .settled ≡ settledCount h (x .table) goal
-  settled-row = row-settled row (x .answer) ∙ aimed-count (graph f m) start (x .table) h goal
+  settled-row = row-settled f m start row (x .answer) ∙ aimed-count (graph f m) start (x .table) h goal
 
   counted : numbersOf a .settled ≡ count (λ v. not (eqb (getD (r′ .costs) v 0) MARK)) (cells f)
   unfolding settledCount
@@ -162,20 +169,24 @@ module _ {f : Floor} {m : List ℕ} {start goal : ℕ} {r : Rooms} {a : Answer} 
   -- as much of the route room as the answer tells of is the row's route
   pub astar-written : take (numbersOf a .length) (r′ .route) ≡ take (numbersOf a .length) (row .route)
   astar-written =
-      let short : numbersOf a .length ≤ length (row .route) = rw (x .answer) (answered-length (row .kind) row) in
+      let short : numbersOf a .length ≤ length (row .route) = rw (x .answer) (told-length f m start (row .kind) row) in
       way-kept f left (row .route) r r′ (x .leaves) cover (numbersOf a .length) short
 
   pub astar-answers : AstarAnswers f m start goal (numbersOf a) r r′
   astar-answers = record {
-    not-refused = row-no-refusal row (x .answer);
-    found = Iff·trans (row-kind row (x .answer) Kind.found) when-found;
+    not-refused = row-no-refusal f m start row (x .answer);
+    found = Iff·trans (row-kind f m start row (x .answer) Kind.found) when-found;
     found-number = λ w. least (when-found .1 w);
     found-route = λ w. begins (when-found .1 w);
-    none = Iff·trans (row-kind row (x .answer) Kind.none) when-none;
+    none = Iff·trans (row-kind f m start row (x .answer) Kind.none) when-none;
     none-number = λ w. ap (λ (n : AnswerNumbers). n .number) (numbers Kind.none (when-none .1 w));
     none-route = λ w.
         let e = when-none .1 w in
-        (ap (λ (n : AnswerNumbers). n .length) (numbers Kind.none e), route-left ∙ ap (λ (ds : List ℕ). ds ++ drop (length ds) (r .route)) (empty e));
+        record {
+          steps = ap (λ (n : AnswerNumbers). n .length) (numbers Kind.none e);
+          sums = ap (λ (n : AnswerNumbers). surd (n .p) (n .q)) (numbers Kind.none e);
+          leaves = route-left ∙ ap (λ (ds : List ℕ). ds ++ drop (length ds) (r .route)) (empty e);
+        };
     costs = settled-cost;
     marks = other-mark;
     settled = counted;
@@ -194,20 +205,23 @@ module _ {f : Floor} {m : List ℕ} {start goal : ℕ} {r : Rooms} {a : Answer} 
   pub astar-no-stop : Aimed f m start goal r a r′ → numbersOf a .kind ≡ 3 → ⊥
   astar-no-stop (refused n p e b l) k = omega (arith, ap (λ (z : Answer). numbersOf z .kind) b)
   astar-no-stop (passed p x) k =
-      aimed-never (graph f m) start (x .table) (estimate f goal) goal (row-kind (aimedRow f m start goal (x .table)) (x .answer) Kind.stopped .0 k)
+      aimed-never (graph f m) start (x .table) (estimate f goal) goal (row-kind f m start (aimedRow f m start goal (x .table)) (x .answer) Kind.stopped .0 k)
 
   -- what an answer found tells
   pub astar-found : Aimed f m start goal r a r′ → numbersOf a .kind ≡ 1 → HasPassed f m × (start < cells f) × Least (graph f m) start goal (numbersOf a .number)
   astar-found (refused n p e b l) k = absurd (omega (arith, ap (λ (z : Answer). numbersOf z .kind) b))
   astar-found (passed p x) k = let w = astar-answers x p in (has-passed x p, starts x p, w .found-number (w .found .0 k))
 
-  -- the first part of the room is the first least-cost route, and the number returned is its cost
   pub astar-way : Aimed f m start goal r a r′ → numbersOf a .kind ≡ 1
-      → First (graph f m) start goal (take (numbersOf a .length) (r′ .route)) × (costOf (graph f m) start (take (numbersOf a .length) (r′ .route)) ≡ numbersOf a .number)
+      → FoundWay f m start goal (numbersOf a .number) (record { steps = numbersOf a .length; p = numbersOf a .p; q = numbersOf a .q }) (r′ .route)
   astar-way (refused n p e b l) k = absurd (omega (arith, ap (λ (z : Answer). numbersOf z .kind) b))
   astar-way (passed p x) k =
       let w = astar-answers x p in
       let reach = w .found .0 k in
       let b = w .found-route reach in
       let same = way-told (numbersOf a .length) (b .way) (r .route) (r′ .route) (b .steps) (b .leaves) in
-      rw same (b .first, least-unique (graph f m) start goal _ _ (first-least (b .first)) (w .found-number reach))
+      record {
+        first = rw same (b .first);
+        cost = rw same (least-unique (graph f m) start goal _ _ (first-least (b .first)) (w .found-number reach));
+        sums = rw same (b .sums);
+      }

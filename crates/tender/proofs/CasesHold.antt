@@ -1,4 +1,4 @@
--- The cases hold: each table is right because it keeps the rule, which is computed cell by cell; refusals are computed, and answers and costs from the tables.
+-- The cases hold: each table is right because it keeps the rule, which is computed cell by cell; refusals are computed, answers and costs from the tables, P and Q from the routes.
 use mathlib.Core.Path.{_≡_, refl}
 use mathlib.Core.Bool.{Bool, true, _&&_}
 use mathlib.Core.List.{List, [], _∷_, map, head-eq-of-cons-eq, tail-eq-of-cons-eq}
@@ -17,6 +17,7 @@ use Rattle.floor.specs.declared.Screen.{Screen}
 use Rattle.floor.specs.declared.Screen.the-variants.{Passed, Refused}
 use Rattle.floor.specs.Place.{cells, isSide, hasSides, onMap, isOpen}
 use Rattle.floor.specs.Step.{isDirection, target, stepWeight, stepCost, cutsCorner, entering, stepOf, allowed, graph}
+use Rattle.floor.specs.Length.{stepLength, lengthOf}
 use Rattle.floor.specs.Refusal.{firstAbove, screen, questionLines}
 use Rattle.floor.proofs.Laws.{lawful}
 use Rattle.floor.proofs.Questions.{passed-both, question-passed, start-inside}
@@ -25,17 +26,18 @@ use Rattle.answering.specs.Answers.{rowOf}
 use Rattle.search.specs.Search.{limitLine}
 use Rattle.tender.specs.Cases.{Told, gives, refuses, Case, linesOf, HoldsAs, AllHold, cases}
 
--- what is computed of a case, by what is told of it: whether it is refused, whether the table keeps the rule, and the row and the costs from the table
+-- what is computed of a case, by what is told of it: whether it is refused, whether the table keeps the rule, the row and the costs from the table, and P and Q of the route
 abbrev screenFor : Told → Screen
-screenFor (gives a t l) = Passed
+screenFor (gives a s t l) = Passed
 screenFor (refuses n p) = Refused n p
 
 abbrev obeys : Case → Told → Bool
-obeys c (gives a t l) = eqb (length t) (cells (c .floor)) && every (keeps (graph (c .floor) (c .bytes)) (c .asked .start) t) (cells (c .floor))
+obeys c (gives a s t l) = eqb (length t) (cells (c .floor)) && every (keeps (graph (c .floor) (c .bytes)) (c .asked .start) t) (cells (c .floor))
 obeys c (refuses n p) = true
 
 abbrev computed : Case → Told → Told
-computed c (gives a t l) = gives (rowOf (c .floor) (c .bytes) (c .asked) t) t (costsLeft t (a .settled))
+computed c (gives a s t l) =
+    gives (rowOf (c .floor) (c .bytes) (c .asked) t) (lengthOf (c .floor) (c .bytes) (c .asked .start) (a .route)) t (costsLeft t (a .settled))
 computed c (refuses n p) = refuses n p
 
 abbrev all : (Case → Bool) → List Case → Bool
@@ -44,7 +46,7 @@ all p (c ∷ cs) = p c && all p cs
 
 holds : (c : Case) (w : Told) → screen (linesOf c) ≡ screenFor w → T (obeys c w) → computed c w ≡ w → HoldsAs c w
 holds c (refuses n p) e o k = e
-holds c (gives a t l) e o k =
+holds c (gives a s t l) e o k =
     let f = c .floor in
     let m = c .bytes in
     let q = c .asked in
@@ -58,6 +60,7 @@ holds c (gives a t l) e o k =
       passed = e;
       right = rule-is-right law (q .start) inside t .0 (record { covers = eqb→eq (length t) n (b .0); rule = λ v h. every-at (keeps (graph f m) (q .start) t) n (b .1) v h });
       answers = cc;
+      measured = cc;
       leaves = cc;
     }
 
@@ -72,5 +75,5 @@ all-hold (c ∷ cs) e o k =
     )
 
 pub cases-hold : AllHold cases
-unfolding offer due keeps lastStep firstRoute key known answerOf costsLeft isSide hasSides onMap isOpen isDirection target stepWeight stepCost cutsCorner entering stepOf allowed firstAbove
+unfolding offer due keeps lastStep firstRoute key known answerOf costsLeft isSide hasSides onMap isOpen isDirection target stepWeight stepCost cutsCorner entering stepOf allowed firstAbove stepLength
 cases-hold = all-hold cases refl tt refl

@@ -12,6 +12,8 @@ use Rattle.settling.specs.Answer.{Kind, Row}
 use Rattle.floor.specs.declared.Floor.{Floor}
 use Rattle.floor.specs.declared.Screen.{Screen}
 use Rattle.floor.specs.declared.Screen.the-variants.{Passed, Refused}
+use Rattle.floor.specs.declared.RouteLength.{RouteLength}
+use Rattle.floor.specs.Length.{routeLength}
 use Rattle.floor.specs.Refusal.{Line, line, screen, mapLines, floorLines, questionLines}
 use Rattle.floor.specs.LowestLine.{IsLowestLine}
 use Rattle.floor.specs.Numbers.{Numbers, refused, fault, gives, afterScreen, numbersOf}
@@ -50,16 +52,16 @@ use Rattle.tender.proofs.Unlogged.{log-reader-refuses, log-reader-call-
 use Rattle.tender.proofs.Records.{same-length, alike, answered-each}
 
 -- an answer that is a row of 01's table is no refusal
-row-no-refusal : (k : Kind) (w : Row) (n p : ℕ) → answered k w ≡ Answer.Refused n p → ⊥
-row-no-refusal Kind.found w n p e = let z : _≡_ {A = ℕ} 0 1 = cc in omega arith
-row-no-refusal Kind.none w n p e = let z : _≡_ {A = ℕ} 0 1 = cc in omega arith
-row-no-refusal Kind.stopped w n p e = let z : _≡_ {A = ℕ} 0 1 = cc in omega arith
+row-no-refusal : (measure : List ℕ → RouteLength) (k : Kind) (w : Row) (n p : ℕ) → answered measure k w ≡ Answer.Refused n p → ⊥
+row-no-refusal measure Kind.found w n p e = let z : _≡_ {A = ℕ} 0 1 = cc in omega arith
+row-no-refusal measure Kind.none w n p e = let z : _≡_ {A = ℕ} 0 1 = cc in omega arith
+row-no-refusal measure Kind.stopped w n p e = let z : _≡_ {A = ℕ} 0 1 = cc in omega arith
 
 -- an engine's answer: the refusal that its lines give, which alters nothing, or a row of its table
 module _ (ls : List Line) (rises : T (rising 0 ls)) {a : Answer} {same : Type 0} (by : (n p : ℕ) → screen ls ≡ Refused n p → (a ≡ Answer.Refused n p) × same)
-    (row : screen ls ≡ Passed → (k : Kind) × ((w : Row) × (a ≡ answered k w))) where
+    (measure : List ℕ → RouteLength) (row : screen ls ≡ Passed → (w : Row) × (a ≡ answered measure (w .kind) w)) where
   refused-by : (n p : ℕ) (s : Screen) → screen ls ≡ s → a ≡ Answer.Refused n p → screen ls ≡ Refused n p
-  refused-by n p Passed e h = let w = row e in absurd (row-no-refusal (w .0) (w .1 .0) n p (sym (w .1 .1) ∙ h))
+  refused-by n p Passed e h = let w = row e in absurd (row-no-refusal measure (w .0 .kind) (w .0) n p (sym (w .1) ∙ h))
   refused-by n p (Refused i j) e h = let k = sym (by i j e .0) ∙ h in e ∙ cc
 
   engine-refuses : Refuses (IsLowestLine ls) (λ n p. a ≡ Answer.Refused n p) same
@@ -70,11 +72,11 @@ module _ (ls : List Line) (rises : T (rising 0 ls)) {a : Answer} {same : Type 0}
 
 search-refuses : (f : Floor) (m : List ℕ) (q : Question) (r : Rooms) (a : Answer) (r′ : Rooms) → Searched f m q r a r′
     → Refuses (IsLowestLine (searchLines f m q r)) (λ n p. a ≡ Answer.Refused n p) (r′ ≡ r)
-search-refuses f m q r a r′ x = engine-refuses (searchLines f m q r) tt (by-refusal x) (λ e. let y = by-table x e in (rowOf f m q (y .table) .kind, (rowOf f m q (y .table), y .answer)))
+search-refuses f m q r a r′ x = engine-refuses (searchLines f m q r) tt (by-refusal x) (routeLength f m (q .start)) (λ e. let y = by-table x e in (rowOf f m q (y .table), y .answer))
 
 astar-refuses : (f : Floor) (m : List ℕ) (start goal : ℕ) (r : Rooms) (a : Answer) (r′ : Rooms) → Aimed f m start goal r a r′
     → Refuses (IsLowestLine (lentLines f m start goal r)) (λ n p. a ≡ Answer.Refused n p) (r′ ≡ r)
-astar-refuses f m start goal r a r′ x = engine-refuses (lentLines f m start goal r) tt (aimed-by-refusal x) (λ e. let y = aimed-by-table x e in (aimedRow f m start goal (y .table) .kind, (aimedRow f m start goal (y .table), y .answer)))
+astar-refuses f m start goal r a r′ x = engine-refuses (lentLines f m start goal r) tt (aimed-by-refusal x) (routeLength f m start) (λ e. let y = aimed-by-table x e in (aimedRow f m start goal (y .table), y .answer))
 
 -- the numbers of an answer that gives values tell the screen before it
 abbrev screenIn : Numbers → Screen

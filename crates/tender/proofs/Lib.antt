@@ -16,3 +16,4 @@ pub mod TwoEnginesHold
 pub mod OneTable
 pub mod AloneHolds
 pub mod Logged
+pub mod SumsHold

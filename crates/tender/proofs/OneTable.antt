@@ -19,6 +19,7 @@ use Rattle.floor.specs.declared.Floor.{Floor}
 use Rattle.floor.specs.declared.Screen.the-variants.{Passed}
 use Rattle.floor.specs.Place.{cells}
 use Rattle.floor.specs.Step.{leastStep, greatestStep, graph}
+use Rattle.floor.specs.Length.{Surd, surd, lengthOf}
 use Rattle.floor.specs.Refusal.{screen, questionLines}
 use Rattle.floor.proofs.Laws.{lawful}
 use Rattle.floor.proofs.Questions.{question-passed, start-inside}
@@ -33,14 +34,15 @@ use Rattle.tender.specs.SearchTable.{GoalWithin, GoalMissing, Otherwise,
 two-parts : (n : ℕ) (a b : List ℕ) → take n a ≡ take n b → drop n a ≡ drop n b → a ≡ b
 two-parts n a b e h = sym (take-append-drop n a) ∙ ap (λ (x : List ℕ). x ++ drop n a) e ∙ ap (λ (x : List ℕ). take n b ++ x) h ∙ take-append-drop n b
 
-abbrev numbers : ℕ → ℕ → ℕ → ℕ → ℕ → ℕ → AnswerNumbers
-numbers a b c d e h = record { kind = a; refusal = b; place = c; settled = d; number = e; length = h }
+abbrev numbers : ℕ → ℕ → ℕ → ℕ → ℕ → ℕ → Surd → AnswerNumbers
+numbers a b c d e h l = record { kind = a; refusal = b; place = c; settled = d; number = e; length = h; p = l .whole; q = l .root }
 
--- an answer's numbers one by one
+-- an answer's numbers one by one, P and Q together
 same-fields : (n k : AnswerNumbers) → n .kind ≡ k .kind → n .refusal ≡ k .refusal → n .place ≡ k .place → n .settled ≡ k .settled
-    → n .number ≡ k .number → n .length ≡ k .length → n ≡ k
-same-fields n k a b c d e h =
-    let z : numbers (n .kind) (n .refusal) (n .place) (n .settled) (n .number) (n .length) ≡ numbers (k .kind) (k .refusal) (k .place) (k .settled) (k .number) (k .length) = cc in
+    → n .number ≡ k .number → n .length ≡ k .length → surd (n .p) (n .q) ≡ surd (k .p) (k .q) → n ≡ k
+same-fields n k a b c d e h l =
+    let z : numbers (n .kind) (n .refusal) (n .place) (n .settled) (n .number) (n .length) (surd (n .p) (n .q))
+    ≡ numbers (k .kind) (k .refusal) (k .place) (k .settled) (k .number) (k .length) (surd (k .p) (k .q)) = cc in
     z
 
 record SameColumns (n k : AnswerNumbers) : Type 0 where
@@ -48,6 +50,7 @@ record SameColumns (n k : AnswerNumbers) : Type 0 where
   settled : n .settled ≡ k .settled
   number : n .number ≡ k .number
   length : n .length ≡ k .length
+  sums : surd (n .p) (n .q) ≡ surd (k .p) (k .q)
 
 module _ {f : Floor} {m : List ℕ} {q : Question} {l : List ℕ} {r : Rooms} {n k : AnswerNumbers} {r′ p′ : Rooms}
     (a : Answers f m q l n r r′) (b : Answers f m q l k r p′) where
@@ -63,6 +66,7 @@ module _ {f : Floor} {m : List ℕ} {q : Question} {l : List ℕ} {r : Rooms} {n
           settled = a .found-settled w ∙ sym (b .found-settled w);
           number = least-unique (graph f m) (q .start) (q .goal) (n .number) (k .number) (a .found-number w) (b .found-number w);
           length = long;
+          sums = x .sums ∙ ap (lengthOf f m (q .start)) way ∙ sym (y .sums);
         },
         x .leaves ∙ rw (way, long) (sym (y .leaves)),
       )
@@ -73,9 +77,10 @@ module _ {f : Floor} {m : List ℕ} {q : Question} {l : List ℕ} {r : Rooms} {n
       kind = a .none .1 w ∙ sym (b .none .1 w);
       settled = a .none-settled w ∙ sym (b .none-settled w);
       number = a .none-number w ∙ sym (b .none-number w);
-      length = a .none-route w .0 ∙ sym (b .none-route w .0);
+      length = a .none-route w .steps ∙ sym (b .none-route w .steps);
+      sums = a .none-route w .sums ∙ sym (b .none-route w .sums);
     },
-    a .none-route w .1 ∙ sym (b .none-route w .1),
+    a .none-route w .leaves ∙ sym (b .none-route w .leaves),
   )
 
   same-stopped : Otherwise l q → SameColumns n k × (r′ .route ≡ p′ .route)
@@ -87,9 +92,10 @@ module _ {f : Floor} {m : List ℕ} {q : Question} {l : List ℕ} {r : Rooms} {n
           kind = a .stopped .1 w ∙ sym (b .stopped .1 w);
           settled = a .stopped-settled w ∙ sym (b .stopped-settled w);
           number = least-unique (graph f m) (q .start) (y .0) (n .number) (k .number) (rw v at (x .2)) (y .2);
-          length = a .stopped-route w .0 ∙ sym (b .stopped-route w .0);
+          length = a .stopped-route w .steps ∙ sym (b .stopped-route w .steps);
+          sums = a .stopped-route w .sums ∙ sym (b .stopped-route w .sums);
         },
-        a .stopped-route w .1 ∙ sym (b .stopped-route w .1),
+        a .stopped-route w .leaves ∙ sym (b .stopped-route w .leaves),
       )
 
   same-row : SameColumns n k × (r′ .route ≡ p′ .route)
@@ -105,7 +111,7 @@ module _ {f : Floor} {m : List ℕ} {q : Question} {l : List ℕ} {r : Rooms} {n
       let c = same-row .0 in
       let x = a .not-refused in
       let y = b .not-refused in
-      same-fields n k (c .kind) (x .0 ∙ sym (y .0)) (x .1 ∙ sym (y .1)) (c .settled) (c .number) (c .length)
+      same-fields n k (c .kind) (x .0 ∙ sym (y .0)) (x .1 ∙ sym (y .1)) (c .settled) (c .number) (c .length) (c .sums)
 
   module _ (passed : screen (searchLines f m q r) ≡ Passed) (is : IsL (graph f m) (q .start) l) where
     asked : screen (questionLines f m (q .start) (q .goal)) ≡ Passed

@@ -15,6 +15,8 @@ use Rattle.settling.specs.Answer.{Kind, Row}
 use Rattle.settling.proofs.Outcomes.{code, found-first, found-cost, stopped-floor}
 use Rattle.floor.specs.declared.Floor.{Floor}
 use Rattle.floor.specs.declared.Screen.the-variants.{Passed}
+use Rattle.floor.specs.declared.RouteLength.{RouteLength}
+use Rattle.floor.specs.Length.{surd, lengthOf, routeLength}
 use Rattle.floor.specs.Place.{cells}
 use Rattle.floor.specs.Step.{leastStep, greatestStep, graph}
 use Rattle.floor.specs.Refusal.{screen, questionLines}
@@ -22,7 +24,7 @@ use Rattle.floor.proofs.Laws.{lawful}
 use Rattle.floor.proofs.Questions.{question-passed, start-inside, goal-inside}
 use Rattle.answering.specs.declared.Answer.{Answer}
 use Rattle.answering.specs.declared.Answer.the-variants.{Found, Stopped}
-use Rattle.answering.specs.Answers.{rowOf, answered, numbersOf}
+use Rattle.answering.specs.Answers.{rowOf, answered, answerBy, numbersOf}
 use Rattle.answering.specs.Rooms.{Rooms}
 use Rattle.answering.specs.Question.{Question}
 use Rattle.search.specs.Search.{searchLines, ByTable, Searched, refused, passed}
@@ -42,43 +44,53 @@ zero-no-code Kind.found e = omega arith
 zero-no-code Kind.none e = omega arith
 zero-no-code Kind.stopped e = omega arith
 
-code-answered : (k : Kind) (r : Row) → numbersOf (answered k r) .kind ≡ code k
-code-answered Kind.found r = refl
-code-answered Kind.none r = refl
-code-answered Kind.stopped r = refl
+-- of a found answer's cost, route length and route room: the first part of the room is the first least-cost route, at that cost and with that P and Q
+pub record FoundWay (f : Floor) (m : List ℕ) (start goal c : ℕ) (l : RouteLength) (room : List ℕ) : Type 0 where
+  pub first : First (graph f m) start goal (take (l .steps) room)
+  pub cost : costOf (graph f m) start (take (l .steps) room) ≡ c
+  pub sums : surd (l .p) (l .q) ≡ lengthOf f m start (take (l .steps) room)
 
-settled-answered : (k : Kind) (r : Row) → numbersOf (answered k r) .settled ≡ r .settled
-settled-answered Kind.found r = refl
-settled-answered Kind.none r = refl
-settled-answered Kind.stopped r = refl
+-- an answer that comes from a row, of either engine, from that start
+module _ (f : Floor) (m : List ℕ) (s : ℕ) where
+  abbrev pub told : Kind → Row → Answer
+  told = answered (routeLength f m s)
 
--- no more of the route room is told of than the row's route
-pub answered-length : (k : Kind) (w : Row) → numbersOf (answered k w) .length ≤ length (w .route)
-answered-length Kind.found w = omega arith
-answered-length Kind.none w = omega arith
-answered-length Kind.stopped w = omega arith
+  code-told : (k : Kind) (w : Row) → numbersOf (told k w) .kind ≡ code k
+  code-told Kind.found w = refl
+  code-told Kind.none w = refl
+  code-told Kind.stopped w = refl
 
-none-refused : (k : Kind) (w : Row) → (numbersOf (answered k w) .refusal ≡ 0) × (numbersOf (answered k w) .place ≡ 0)
-none-refused Kind.found w = (refl, refl)
-none-refused Kind.none w = (refl, refl)
-none-refused Kind.stopped w = (refl, refl)
+  settled-told : (k : Kind) (w : Row) → numbersOf (told k w) .settled ≡ w .settled
+  settled-told Kind.found w = refl
+  settled-told Kind.none w = refl
+  settled-told Kind.stopped w = refl
 
--- an answer that comes from a row, of either engine
-module _ {a : Answer} (w : Row) (e : a ≡ answered (w .kind) w) where
-  pub row-answer : (k : Kind) → w .kind ≡ k → a ≡ answered k w
-  row-answer k h = e ∙ ap (λ (k : Kind). answered k w) h
+  -- no more of the route room is told of than the row's route
+  pub told-length : (k : Kind) (w : Row) → numbersOf (told k w) .length ≤ length (w .route)
+  told-length Kind.found w = omega arith
+  told-length Kind.none w = omega arith
+  told-length Kind.stopped w = omega arith
 
-  pub row-kind : (k : Kind) → (numbersOf a .kind ≡ code k) ↔ (w .kind ≡ k)
-  row-kind k = (
-    λ h. sym (kind-back (w .kind)) ∙ ap kindOf (sym (code-answered (w .kind) w) ∙ sym (ap (λ (b : Answer). numbersOf b .kind) e) ∙ h) ∙ kind-back k,
-    λ h. ap (λ (b : Answer). numbersOf b .kind) (row-answer k h) ∙ code-answered k w,
-  )
+  none-refused : (k : Kind) (w : Row) → (numbersOf (told k w) .refusal ≡ 0) × (numbersOf (told k w) .place ≡ 0)
+  none-refused Kind.found w = (refl, refl)
+  none-refused Kind.none w = (refl, refl)
+  none-refused Kind.stopped w = (refl, refl)
 
-  pub row-settled : numbersOf a .settled ≡ w .settled
-  row-settled = ap (λ (b : Answer). numbersOf b .settled) e ∙ settled-answered (w .kind) w
+  module _ {a : Answer} (w : Row) (e : a ≡ answerBy f m s w) where
+    pub row-answer : (k : Kind) → w .kind ≡ k → a ≡ told k w
+    row-answer k h = e ∙ ap (λ (k : Kind). told k w) h
 
-  pub row-no-refusal : (numbersOf a .refusal ≡ 0) × (numbersOf a .place ≡ 0)
-  row-no-refusal = rw e (none-refused (w .kind) w)
+    pub row-kind : (k : Kind) → (numbersOf a .kind ≡ code k) ↔ (w .kind ≡ k)
+    row-kind k = (
+      λ h. sym (kind-back (w .kind)) ∙ ap kindOf (sym (code-told (w .kind) w) ∙ sym (ap (λ (b : Answer). numbersOf b .kind) e) ∙ h) ∙ kind-back k,
+      λ h. ap (λ (b : Answer). numbersOf b .kind) (row-answer k h) ∙ code-told k w,
+    )
+
+    pub row-settled : numbersOf a .settled ≡ w .settled
+    row-settled = ap (λ (b : Answer). numbersOf b .settled) e ∙ settled-told (w .kind) w
+
+    pub row-no-refusal : (numbersOf a .refusal ≡ 0) × (numbersOf a .place ≡ 0)
+    row-no-refusal = rw e (none-refused (w .kind) w)
 
 module _ {f : Floor} {m : List ℕ} {q : Question} {r : Rooms} {a : Answer} {r′ : Rooms} (x : ByTable f m q r a r′) where
   abbrev pub given : Row
@@ -87,21 +99,21 @@ module _ {f : Floor} {m : List ℕ} {q : Question} {r : Rooms} {a : Answer} {r�
   -- an answer of kind k comes from a row of that kind
   pub record FromRow (k : Kind) : Type 0 where
     pub kind : given .kind ≡ k
-    pub answer : a ≡ answered k given
+    pub answer : a ≡ told f m (q .start) k given
     pub route : r′ .route ≡ given .route ++ drop (length (given .route)) (r .route)
 
   -- an answer of that kind
-  pub as-row : (k : Kind) → given .kind ≡ k → a ≡ answered k given
-  as-row = row-answer given (x .answer)
+  pub as-row : (k : Kind) → given .kind ≡ k → a ≡ told f m (q .start) k given
+  as-row = row-answer f m (q .start) given (x .answer)
 
   pub from-row : (k : Kind) → numbersOf a .kind ≡ code k → FromRow k
   from-row k e =
-      let h = row-kind given (x .answer) k .0 e in
+      let h = row-kind f m (q .start) given (x .answer) k .0 e in
       record { kind = h; answer = as-row k h; route = ap (λ (z : Rooms). z .route) (x .leaves) }
 
   -- the settled count is the row's
   pub settled-is : numbersOf a .settled ≡ given .settled
-  settled-is = row-settled given (x .answer)
+  settled-is = row-settled f m (q .start) given (x .answer)
 
   -- what a question that passed gives
   module _ (p : screen (searchLines f m q r) ≡ Passed) where
@@ -118,17 +130,19 @@ module _ {f : Floor} {m : List ℕ} {q : Question} {r : Rooms} {a : Answer} {r�
     ends = goal-inside f m (q .start) (q .goal) asked
 
   module _ (p : screen (searchLines f m q r) ≡ Passed) where
-    found-by-table : (s c l : ℕ) → a ≡ Found s c l
-        → First (graph f m) (q .start) (q .goal) (take l (r′ .route)) × (costOf (graph f m) (q .start) (take l (r′ .route)) ≡ c)
-    found-by-table s c l e =
+    found-by-table : (t c : ℕ) (l : RouteLength) → a ≡ Found t c l → FoundWay f m (q .start) (q .goal) c l (r′ .route)
+    found-by-table t c l e =
         let w = from-row Kind.found (ap (λ (b : Answer). numbersOf b .kind) e) in
         let b = sym e ∙ w .answer in
-        let n : l ≡ length (given .route) = ap (λ (b : Answer). numbersOf b .length) b in
-        let t : take l (r′ .route) ≡ given .route = rw (w .route, n) (take-append-seam (given .route) (drop (length (given .route)) (r .route))) in
-        rw t (
-          found-first (law p) (q .start) (starts p) (x .table) (x .right) (q .goal) (ends p) (q .limit) (w .kind),
-          found-cost (law p) (q .start) (starts p) (x .table) (x .right) (q .goal) (ends p) (q .limit) (w .kind) ∙ sym (ap (λ (b : Answer). numbersOf b .number) b),
-        )
+        let n : l .steps ≡ length (given .route) = ap (λ (b : Answer). numbersOf b .length) b in
+        let way : take (l .steps) (r′ .route) ≡ given .route = rw (w .route, n) (take-append-seam (given .route) (drop (length (given .route)) (r .route))) in
+        record {
+          first = rw way (found-first (law p) (q .start) (starts p) (x .table) (x .right) (q .goal) (ends p) (q .limit) (w .kind));
+          cost =
+              rw way
+              (found-cost (law p) (q .start) (starts p) (x .table) (x .right) (q .goal) (ends p) (q .limit) (w .kind) ∙ sym (ap (λ (b : Answer). numbersOf b .number) b));
+          sums = rw way (ap (λ (b : Answer). surd (numbersOf b .p) (numbersOf b .q)) b);
+        }
 
     stopped-by-table : (s c : ℕ) → a ≡ Stopped s c → (ds : List ℕ) → Route (graph f m) (q .start) (q .goal) ds → c ≤ costOf (graph f m) (q .start) ds
     stopped-by-table s c e ds w =
@@ -137,9 +151,7 @@ module _ {f : Floor} {m : List ℕ} {q : Question} {r : Rooms} {a : Answer} {r�
         (stopped-floor (law p) (q .start) (starts p) (x .table) (x .right) (q .goal) (ends p) (q .limit) (y .kind) ds w)
 
 module _ {f : Floor} {m : List ℕ} {q : Question} {r : Rooms} {a : Answer} {r′ : Rooms} where
-  -- the first part of the room is the first least-cost route, and the number returned is its cost
-  pub found-route : Searched f m q r a r′ → (s c l : ℕ) → a ≡ Found s c l
-      → First (graph f m) (q .start) (q .goal) (take l (r′ .route)) × (costOf (graph f m) (q .start) (take l (r′ .route)) ≡ c)
+  pub found-route : Searched f m q r a r′ → (s c : ℕ) (l : RouteLength) → a ≡ Found s c l → FoundWay f m (q .start) (q .goal) c l (r′ .route)
   found-route (refused n w h b k) s c l e = absurd (zero-no-code Kind.found (ap (λ (b : Answer). numbersOf b .kind) (sym b ∙ e)))
   found-route (passed p x) s c l e = found-by-table x p s c l e
 

@@ -13,7 +13,7 @@ use Rattle.floor.specs.Refusal.{screen}
 use Rattle.floor.proofs.Laws.{lawful}
 use Rattle.floor.proofs.Questions.{question-passed, start-inside}
 use Rattle.answering.specs.declared.Answer.{Answer}
-use Rattle.answering.specs.Answers.{rowOf, answered, numbersOf}
+use Rattle.answering.specs.Answers.{rowOf, answerBy, numbersOf}
 use Rattle.answering.specs.Rooms.{Rooms}
 use Rattle.answering.specs.Question.{Question}
 use Rattle.search.specs.Search.{searchLines, ByTable, Searched, refused, passed}
@@ -21,7 +21,7 @@ use Rattle.search.proofs.Lending.{search-question, searched-refused}
 use Rattle.search.proofs.Promise.{by-table, by-refusal}
 use Rattle.tender.specs.SearchTable.{SameLengths}
 use Rattle.tender.specs.Alone.{SameWritten}
-use Rattle.tender.proofs.Rowed.{answered-length, given, as-row}
+use Rattle.tender.proofs.Rowed.{told-length, given, as-row}
 use Rattle.tender.proofs.Leaving.{search-left, costs-written, search-way, lengths-stay}
 
 -- there is an answer to every question
@@ -44,7 +44,7 @@ module _ {f : Floor} {m : List ℕ} {q : Question} {r : Rooms} {a : Answer} {r�
     (e : screen (searchLines f m q r) ≡ Passed) where
   pub route-written : take (numbersOf a .length) (r′ .route) ≡ take (numbersOf a .length) (given x .route)
   route-written =
-      let told : numbersOf a .length ≤ length (given x .route) = rw (as-row x (given x .kind) refl) (answered-length (given x .kind) (given x)) in
+      let told : numbersOf a .length ≤ length (given x .route) = rw (as-row x (given x .kind) refl) (told-length f m (q .start) (given x .kind) (given x)) in
       search-way x e (numbersOf a .length) told
 
 -- rooms of the same lengths are refused alike
@@ -60,7 +60,7 @@ module _ {f : Floor} {m : List ℕ} {q : Question} {r p : Rooms} (same : SameLen
   same-answer (refused n w e c l) y = c ∙ sym (by-refusal y n w (same-screen f m q same ∙ e) .0)
   same-answer (passed e x) z =
       let y = by-table z (same-screen f m q same ∙ e) in
-      x .answer ∙ ap (λ (t : List ℕ). answered (rowOf f m q t .kind) (rowOf f m q t)) (same-table x y) ∙ sym (y .answer)
+      x .answer ∙ ap (λ (t : List ℕ). answerBy f m (q .start) (rowOf f m q t)) (same-table x y) ∙ sym (y .answer)
 
   pub same-written : Searched f m q r a r′ → Searched f m q p b p′ → screen (searchLines f m q r) ≡ Passed → SameWritten f (numbersOf a .length) r′ p′
   same-written v w e =

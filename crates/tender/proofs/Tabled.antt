@@ -20,15 +20,16 @@ use Rattle.floor.specs.declared.Floor.{Floor}
 use Rattle.floor.specs.declared.Screen.the-variants.{Passed}
 use Rattle.floor.specs.Place.{cells}
 use Rattle.floor.specs.Step.{graph}
+use Rattle.floor.specs.Length.{surd}
 use Rattle.floor.specs.Refusal.{screen}
 use Rattle.answering.specs.declared.Answer.{Answer}
 use Rattle.answering.specs.declared.AnswerNumbers.{AnswerNumbers}
-use Rattle.answering.specs.Answers.{answered, numbersOf}
+use Rattle.answering.specs.Answers.{numbersOf}
 use Rattle.answering.specs.Rooms.{Rooms}
 use Rattle.answering.specs.Question.{Question}
 use Rattle.search.specs.Search.{searchLines, ByTable}
-use Rattle.tender.specs.SearchTable.{GoalWithin, GoalMissing, Otherwise, BeginsWithRoute, Answers, TableHolds}
-use Rattle.tender.proofs.Rowed.{row-kind, row-no-refusal, given, law, starts, ends, settled-is, as-row}
+use Rattle.tender.specs.SearchTable.{GoalWithin, GoalMissing, Otherwise, BeginsWithRoute, NoRoute, Answers, TableHolds}
+use Rattle.tender.proofs.Rowed.{told, row-kind, row-no-refusal, given, law, starts, ends, settled-is, as-row}
 use Rattle.tender.proofs.Leaving.{search-left, route-left, lengths-stay}
 
 kinds-apart : {k l : Kind} → k ≡ l → code k ≢ code l → ⊥
@@ -100,23 +101,32 @@ module _ {f : Floor} {m : List ℕ} {q : Question} {r : Rooms} {a : Answer} {r�
       (stopped-exactly (law x p) (q .start) (starts x p) t (x .right) (q .goal) (ends x p) (q .limit) .0 k)
 
   -- the numbers of an answer of that kind, when its row is known
-  columns : (k : Kind) {w : Row} → given x .kind ≡ k → given x ≡ w → numbersOf a ≡ numbersOf (answered k w)
-  columns k h e = ap numbersOf (as-row x k h ∙ ap (answered k) e)
+  columns : (k : Kind) {w : Row} → given x .kind ≡ k → given x ≡ w → numbersOf a ≡ numbersOf (told f m (q .start) k w)
+  columns k h e = ap numbersOf (as-row x k h ∙ ap (told f m (q .start) k) e)
 
   -- the route room of a row without a route
   route-kept : {w : Row} → given x ≡ w → w .route ≡ [] → r′ .route ≡ r .route
   route-kept e z = route-left x p ∙ ap (λ (ds : List ℕ). ds ++ drop (length ds) (r .route)) (ap (λ (w : Row). w .route) e ∙ z)
 
+  no-route : {k : Kind} {w : Row} → given x .kind ≡ k → (e : given x ≡ w) → w .route ≡ [] → numbersOf (told f m (q .start) k w) .length ≡ 0
+      → surd (numbersOf (told f m (q .start) k w) .p) (numbersOf (told f m (q .start) k w) .q) ≡ surd 0 0 → NoRoute (numbersOf a) (r .route) (r′ .route)
+  no-route {k} h e z n l = record {
+    steps = ap (λ (b : AnswerNumbers). b .length) (columns k h e) ∙ n;
+    sums = ap (λ (b : AnswerNumbers). surd (b .p) (b .q)) (columns k h e) ∙ l;
+    leaves = route-kept e z;
+  }
+
   value-least : (v : ℕ) → Reachable (graph f m) (q .start) v → Least (graph f m) (q .start) v (getD t v 0)
   value-least = reached-value (law x p) (q .start) (starts x p) t (x .right)
 
-  begins : given x .kind ≡ Kind.found → BeginsWithRoute f m (q .start) (q .goal) (numbersOf a .length) (r .route) (r′ .route)
+  begins : given x .kind ≡ Kind.found → BeginsWithRoute f m (q .start) (q .goal) (numbersOf a) (r .route) (r′ .route)
   begins k =
       let n : numbersOf a .length ≡ length (given x .route) = ap (λ (b : AnswerNumbers). b .length) (columns Kind.found k refl) in
       record {
         way = given x .route;
         first = found-first (law x p) (q .start) (starts x p) t (x .right) (q .goal) (ends x p) (q .limit) k;
         steps = n;
+        sums = ap (λ (b : AnswerNumbers). surd (b .p) (b .q)) (columns Kind.found k refl);
         leaves = rw n (route-left x p);
       }
 
@@ -150,8 +160,8 @@ module _ {f : Floor} {m : List ℕ} {q : Question} {r : Rooms} {a : Answer} {r�
 
   pub answers : Answers f m q l (numbersOf a) r r′
   answers = record {
-    not-refused = row-no-refusal (given x) (x .answer);
-    found = Iff·trans (row-kind (given x) (x .answer) Kind.found) when-found;
+    not-refused = row-no-refusal f m (q .start) (given x) (x .answer);
+    found = Iff·trans (row-kind f m (q .start) (given x) (x .answer) Kind.found) when-found;
     found-settled = λ w.
         let k = when-found .1 w in
         omega (arith, ap (λ (b : AnswerNumbers). b .settled) (columns Kind.found k (row-found k)), standing (w .i) (q .goal) (w .place) .1);
@@ -159,18 +169,18 @@ module _ {f : Floor} {m : List ℕ} {q : Question} {r : Rooms} {a : Answer} {r�
         let k = when-found .1 w in
         rw (ap (λ (b : AnswerNumbers). b .number) (columns Kind.found k (row-found k))) (value-least (q .goal) (standing (w .i) (q .goal) (w .place) .0));
     found-route = λ w. begins (when-found .1 w);
-    none = Iff·trans (row-kind (given x) (x .answer) Kind.none) when-none;
+    none = Iff·trans (row-kind f m (q .start) (given x) (x .answer) Kind.none) when-none;
     none-settled = λ w. let k = when-none .1 w in ap (λ (b : AnswerNumbers). b .settled) (columns Kind.none k (row-none k));
     none-number = λ w. let k = when-none .1 w in ap (λ (b : AnswerNumbers). b .number) (columns Kind.none k (row-none k));
     none-route = λ w.
         let k = when-none .1 w in
-        (ap (λ (b : AnswerNumbers). b .length) (columns Kind.none k (row-none k)), route-kept (row-none k) refl);
-    stopped = Iff·trans (row-kind (given x) (x .answer) Kind.stopped) when-stopped;
+        no-route k (row-none k) refl refl refl;
+    stopped = Iff·trans (row-kind f m (q .start) (given x) (x .answer) Kind.stopped) when-stopped;
     stopped-settled = λ w. let k = when-stopped .1 w in ap (λ (b : AnswerNumbers). b .settled) (columns Kind.stopped k (row-stopped k));
     stopped-number = λ w. next-cost (when-stopped .1 w);
     stopped-route = λ w.
         let k = when-stopped .1 w in
-        (ap (λ (b : AnswerNumbers). b .length) (columns Kind.stopped k (row-stopped k)), route-kept (row-stopped k) refl);
+        no-route k (row-stopped k) refl refl refl;
     costs = settled-cost;
     marks = other-mark;
     zeros = search-left x p .zeros;

@@ -5,8 +5,8 @@ use Prim.Native.Nat.{ℕ, _*_, _≤_}
 use native.Mathlib.Omega.{arith}
 use lib.ListN.{take, replicate}
 use Rattle.paths.specs.Route.{costOf, Route}
-use Rattle.paths.specs.First.{First}
 use Rattle.floor.specs.declared.Floor.{Floor}
+use Rattle.floor.specs.declared.RouteLength.{RouteLength}
 use Rattle.floor.specs.Length.{surd, square, times, squared, stepLength, lengthOf}
 use Rattle.floor.specs.Step.{stepWeight, stepCost, target, graph}
 use Rattle.floor.proofs.Lengths.{cost-over-length, cost-under-length, floor-under-length, length-under-length}
@@ -19,12 +19,15 @@ use Rattle.answering.specs.Question.{Question}
 use Rattle.search.specs.Search.{Searched}
 use Rattle.astar.specs.Astar.{Aimed}
 use Rattle.tender.specs.ThirdCondition.{Measured, ThirdCondition}
-use Rattle.tender.proofs.Rowed.{found-route, stopped-below}
+use Rattle.tender.proofs.Rowed.{FoundWay, found-route, stopped-below}
 use Rattle.tender.proofs.AstarTabled.{astar-way, astar-no-stop}
 use Rattle.tender.proofs.Records.{each-record}
 
 -- an answer is found or stopped exactly by its kind
-found-is : (a : Answer) → numbersOf a .kind ≡ 1 → a ≡ Found (numbersOf a .settled) (numbersOf a .number) (numbersOf a .length)
+abbrev pub lengthIn : AnswerNumbers → RouteLength
+lengthIn n = record { steps = n .length; p = n .p; q = n .q }
+
+found-is : (a : Answer) → numbersOf a .kind ≡ 1 → a ≡ Found (numbersOf a .settled) (numbersOf a .number) (lengthIn (numbersOf a))
 found-is (Answer.Refused n p) e = absurd (omega arith)
 found-is (Found s c l) e = refl
 found-is (None s) e = absurd (omega arith)
@@ -38,24 +41,30 @@ stopped-is (Stopped s c) e = refl
 
 -- of either engine: a found route costs least, and no route costs less than a floor
 module _ (f : Floor) (m : List ℕ) (start goal : ℕ) (n : AnswerNumbers) (room : List ℕ)
-    (way : n .kind ≡ 1 → First (graph f m) start goal (take (n .length) room) × (costOf (graph f m) start (take (n .length) room) ≡ n .number))
+    (way : n .kind ≡ 1 → FoundWay f m start goal (n .number) (lengthIn n) room)
     (below : n .kind ≡ 3 → (ds : List ℕ) → Route (graph f m) start goal ds → n .number ≤ costOf (graph f m) start ds) where
   abbrev ds : List ℕ
   ds = take (n .length) room
 
   measured : Measured f m start goal n room
   measured = record {
-    nearly-shortest = λ e es w. let y = way e in length-under-length f m start es (w .allowed) start ds (y .0 .route .allowed) (y .0 .least es w);
-    cost-above = λ e. let y = way e in rw (y .1) at (cost-over-length f m start ds (y .0 .route .allowed));
-    cost-below = λ e. let y = way e in rw (y .1) at (cost-under-length f m start ds (y .0 .route .allowed));
+    sums = λ e. way e .sums;
+    nearly-shortest = λ e es w. let y = way e .first in length-under-length f m start es (w .allowed) start ds (y .route .allowed) (y .least es w);
+    cost-above = λ e. let y = way e in rw (y .cost) at (cost-over-length f m start ds (y .first .route .allowed));
+    cost-below = λ e. let y = way e in rw (y .cost) at (cost-under-length f m start ds (y .first .route .allowed));
     floor-below = λ e es w. floor-under-length f m start es (w .allowed) (n .number) (below e es w);
   }
+
+-- the route that an answer was found with
+pub way-of-search : {f : Floor} {m : List ℕ} {q : Question} {r : Rooms} {a : Answer} {r′ : Rooms} → Searched f m q r a r′ → numbersOf a .kind ≡ 1
+    → FoundWay f m (q .start) (q .goal) (numbersOf a .number) (lengthIn (numbersOf a)) (r′ .route)
+way-of-search {a = a} x e = found-route x (numbersOf a .settled) (numbersOf a .number) (lengthIn (numbersOf a)) (found-is a e)
 
 of-search : {f : Floor} {m : List ℕ} {q : Question} {r : Rooms} {a : Answer} {r′ : Rooms} → Searched f m q r a r′
     → Measured f m (q .start) (q .goal) (numbersOf a) (r′ .route)
 of-search {f} {m} {q} {a = a} {r′ = r′} x =
     measured f m (q .start) (q .goal) (numbersOf a) (r′ .route)
-    (λ e. found-route x (numbersOf a .settled) (numbersOf a .number) (numbersOf a .length) (found-is a e))
+    (way-of-search x)
     (λ e. stopped-below x (numbersOf a .settled) (numbersOf a .number) (stopped-is a e))
 
 of-astar : {f : Floor} {m : List ℕ} {start goal : ℕ} {r : Rooms} {a : Answer} {r′ : Rooms} → Aimed f m start goal r a r′
@@ -66,6 +75,7 @@ of-astar {f} {m} {start} {goal} {a = a} {r′ = r′} x =
 -- a refusal is neither found nor stopped
 of-refusal : (f : Floor) (m : List ℕ) (q : Question) (n p : ℕ) (room : List ℕ) → Measured f m (q .start) (q .goal) (numbersOf (Answer.Refused n p)) room
 of-refusal f m q n p room = record {
+  sums = λ k. absurd (omega arith);
   nearly-shortest = λ k ds w. absurd (omega arith);
   cost-above = λ k. absurd (omega arith);
   cost-below = λ k. absurd (omega arith);

@@ -17,6 +17,7 @@ use Rattle.floor.specs.declared.Screen.{Screen}
 use Rattle.floor.specs.declared.Screen.the-variants.{Passed, Refused}
 use Rattle.floor.specs.Place.{cells}
 use Rattle.floor.specs.Step.{graph}
+use Rattle.floor.specs.Length.{surd, lengthOf}
 use Rattle.floor.specs.Estimate.{estimate}
 use Rattle.floor.specs.Refusal.{screen}
 use Rattle.floor.proofs.Laws.{lawful}
@@ -24,7 +25,8 @@ use Rattle.floor.proofs.Estimating.{estimate-away}
 use Rattle.floor.proofs.Screens.{screen-after}
 use Rattle.floor.proofs.Questions.{start-inside}
 use Rattle.answering.specs.declared.Answer.{Answer}
-use Rattle.answering.specs.Answers.{rowOf, answered, numbersOf}
+use Rattle.answering.specs.declared.AnswerNumbers.{AnswerNumbers}
+use Rattle.answering.specs.Answers.{rowOf, answerBy, numbersOf}
 use Rattle.answering.specs.Rooms.{Rooms, lentLines}
 use Rattle.answering.proofs.Lending.{asked-well}
 use Rattle.search.specs.Search.{limitLine, searchLines, ByTable}
@@ -32,7 +34,7 @@ use Rattle.search.proofs.Promise.{by-table}
 use Rattle.astar.specs.Astar.{AimedTable}
 use Rattle.astar.proofs.Promise.{aimed-by-table}
 use Rattle.tender.specs.TwoEngines.{asPlain, SameAnswer, SettlesNoMore, TwoEngines}
-use Rattle.tender.proofs.Rowed.{settled-is}
+use Rattle.tender.proofs.Rowed.{told, settled-is}
 use Rattle.tender.proofs.Leaving.{search-left}
 use Rattle.tender.proofs.Searches.{route-written}
 use Rattle.tender.proofs.AstarTabled.{row, has-passed, starts, ends, settled-value, cost-settled, settled-row, astar-written}
@@ -47,20 +49,20 @@ refused-alike f m start goal r = go (screen (lentLines f m start goal r)) refl
     go (Refused n p) e = screen-after (lentLines f m start goal r) (limitLine (asPlain f start goal .limit) ∷ []) _ (Refused n p) refl e ∙ sym e
 
 -- rows of the same kind, number and route are told alike
-module _ (v w : Row) (k : v .kind ≡ w .kind) (n : v .number ≡ w .number) (t : v .route ≡ w .route) where
-  told : (k : Kind) → (numbersOf (answered k v) .kind ≡ numbersOf (answered k w) .kind) × (numbersOf (answered k v) .number ≡ numbersOf (answered k w) .number)
-      × (numbersOf (answered k v) .length ≡ numbersOf (answered k w) .length)
-  told Kind.found = (refl, n, ap length t)
-  told Kind.none = (refl, refl, refl)
-  told Kind.stopped = (refl, n, refl)
+record Alike (n k : AnswerNumbers) : Type 0 where
+  kind : n .kind ≡ k .kind
+  number : n .number ≡ k .number
+  length : n .length ≡ k .length
+  sums : surd (n .p) (n .q) ≡ surd (k .p) (k .q)
 
-  alike : {a b : Answer} → a ≡ answered (v .kind) v → b ≡ answered (w .kind) w
-      → (numbersOf a .kind ≡ numbersOf b .kind) × (numbersOf a .number ≡ numbersOf b .number) × (numbersOf a .length ≡ numbersOf b .length)
-  alike e h =
-      rw (e, h)
-      (subst (λ (j : Kind). (numbersOf (answered (v .kind) v) .kind ≡ numbersOf (answered j w) .kind)
-      × (numbersOf (answered (v .kind) v) .number ≡ numbersOf (answered j w) .number)
-      × (numbersOf (answered (v .kind) v) .length ≡ numbersOf (answered j w) .length)) k (told (v .kind)))
+module _ (f : Floor) (m : List ℕ) (s : ℕ) (v w : Row) (k : v .kind ≡ w .kind) (n : v .number ≡ w .number) (t : v .route ≡ w .route) where
+  rows-alike : (k : Kind) → Alike (numbersOf (told f m s k v)) (numbersOf (told f m s k w))
+  rows-alike Kind.found = record { kind = refl; number = n; length = ap length t; sums = ap (lengthOf f m s) t }
+  rows-alike Kind.none = record { kind = refl; number = refl; length = refl; sums = refl }
+  rows-alike Kind.stopped = record { kind = refl; number = n; length = refl; sums = refl }
+
+  alike : {a b : Answer} → a ≡ answerBy f m s v → b ≡ answerBy f m s w → Alike (numbersOf a) (numbersOf b)
+  alike e h = rw (e, h) (subst (λ (j : Kind). Alike (numbersOf (told f m s (v .kind) v)) (numbersOf (told f m s j w))) k (rows-alike (v .kind)))
 
 module _ {f : Floor} {m : List ℕ} {start goal : ℕ} {r p : Rooms} {a b : Answer} {r′ p′ : Rooms}
     (x : ByTable f m (asPlain f start goal) r a r′) (c : screen (searchLines f m (asPlain f start goal) r) ≡ Passed)
@@ -82,12 +84,13 @@ module _ {f : Floor} {m : List ℕ} {start goal : ℕ} {r p : Rooms} {a b : Answ
 
   same : SameAnswer (numbersOf a) (r′ .route) (numbersOf b) (p′ .route)
   same =
-      let z = alike plain (row y d) kinds numbers routes (x .answer) (y .answer) in
+      let z = alike f m start plain (row y d) kinds numbers routes (x .answer) (y .answer) in
       record {
-        kind = z .0;
-        number = z .1;
-        length = z .2;
-        route = route-written x c ∙ rw (z .2, routes) (sym (astar-written y d));
+        kind = z .kind;
+        number = z .number;
+        length = z .length;
+        sums = z .sums;
+        route = route-written x c ∙ rw (z .length, routes) (sym (astar-written y d));
       }
 
   early : (v : ℕ) → v < cells f → T (isSettled (estimate f goal) (y .table) goal v) → place v (L (x .table)) < plain .settled

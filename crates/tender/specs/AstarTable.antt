@@ -15,7 +15,7 @@ use Rattle.floor.specs.Step.{graph}
 use Rattle.floor.specs.Estimate.{estimate}
 use Rattle.answering.specs.declared.AnswerNumbers.{AnswerNumbers}
 use Rattle.answering.specs.Rooms.{Rooms}
-use Rattle.tender.specs.SearchTable.{BeginsWithRoute, SameLengths}
+use Rattle.tender.specs.SearchTable.{BeginsWithRoute, NoRoute, SameLengths}
 
 -- "exactly the reachable cells whose least cost plus estimate is at most the goal's cost, or all reachable cells for none"
 pub record Settles (f : Floor) (m : List ℕ) (start goal v : ℕ) : Type 0 where
@@ -28,10 +28,10 @@ pub record AstarAnswers (f : Floor) (m : List ℕ) (start goal : ℕ) (n : Answe
   pub not-refused : (n .refusal ≡ 0) × (n .place ≡ 0)
   pub found : (n .kind ≡ 1) ↔ Reachable (graph f m) start goal
   pub found-number : Reachable (graph f m) start goal → Least (graph f m) start goal (n .number)
-  pub found-route : Reachable (graph f m) start goal → BeginsWithRoute f m start goal (n .length) (r .route) (r′ .route)
+  pub found-route : Reachable (graph f m) start goal → BeginsWithRoute f m start goal n (r .route) (r′ .route)
   pub none : (n .kind ≡ 2) ↔ (Reachable (graph f m) start goal → ⊥)
   pub none-number : (Reachable (graph f m) start goal → ⊥) → n .number ≡ MARK
-  pub none-route : (Reachable (graph f m) start goal → ⊥) → (n .length ≡ 0) × (r′ .route ≡ r .route)
+  pub none-route : (Reachable (graph f m) start goal → ⊥) → NoRoute n (r .route) (r′ .route)
   -- "the costs left are theirs, MARK elsewhere"
   pub costs : (v : ℕ) → Settles f m start goal v → Least (graph f m) start v (getD (r′ .costs) v 0)
   pub marks : (v : ℕ) → v < cells f → (Settles f m start goal v → ⊥) → getD (r′ .costs) v 0 ≡ MARK

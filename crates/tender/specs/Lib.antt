@@ -9,3 +9,4 @@ pub mod Limits
 pub mod BothCells
 pub mod TwoEngines
 pub mod RouteLog
+pub mod Sums

@@ -11,6 +11,7 @@ use Rattle.settling.specs.List.{At, IsL}
 use Rattle.floor.specs.declared.Floor.{Floor}
 use Rattle.floor.specs.Place.{cells}
 use Rattle.floor.specs.Step.{graph}
+use Rattle.floor.specs.Length.{surd, lengthOf}
 use Rattle.answering.specs.declared.AnswerNumbers.{AnswerNumbers}
 use Rattle.answering.specs.Rooms.{Rooms}
 use Rattle.answering.specs.Question.{Question}
@@ -31,12 +32,19 @@ pub record Otherwise (l : List ℕ) (q : Question) : Type 0 where
   pub not-found : GoalWithin l q → ⊥
   pub not-none : GoalMissing l q → ⊥
 
--- the route room begins with the first least-cost route, of n steps, and is untouched further along
-pub record BeginsWithRoute (f : Floor) (m : List ℕ) (start goal n : ℕ) (room room′ : List ℕ) : Type 0 where
+-- the route room begins with the first least-cost route and is untouched further along; the answer has its length, and its P and Q (02, R-6)
+pub record BeginsWithRoute (f : Floor) (m : List ℕ) (start goal : ℕ) (n : AnswerNumbers) (room room′ : List ℕ) : Type 0 where
   pub way : List ℕ
   pub first : First (graph f m) start goal way
-  pub steps : n ≡ length way
-  pub leaves : room′ ≡ way ++ drop n room
+  pub steps : n .length ≡ length way
+  pub sums : surd (n .p) (n .q) ≡ lengthOf f m start way
+  pub leaves : room′ ≡ way ++ drop (n .length) room
+
+-- the route room is untouched, and length, P and Q are 0
+pub record NoRoute (n : AnswerNumbers) (room room′ : List ℕ) : Type 0 where
+  pub steps : n .length ≡ 0
+  pub sums : surd (n .p) (n .q) ≡ surd 0 0
+  pub leaves : room′ ≡ room
 
 pub record SameLengths (r r′ : Rooms) : Type 0 where
   pub costs : length (r′ .costs) ≡ length (r .costs)
@@ -49,16 +57,16 @@ pub record Answers (f : Floor) (m : List ℕ) (q : Question) (l : List ℕ) (n :
   pub found : (n .kind ≡ 1) ↔ GoalWithin l q
   pub found-settled : (w : GoalWithin l q) → n .settled ≡ w .i + 1
   pub found-number : GoalWithin l q → Least (graph f m) (q .start) (q .goal) (n .number)
-  pub found-route : GoalWithin l q → BeginsWithRoute f m (q .start) (q .goal) (n .length) (r .route) (r′ .route)
+  pub found-route : GoalWithin l q → BeginsWithRoute f m (q .start) (q .goal) n (r .route) (r′ .route)
   pub none : (n .kind ≡ 2) ↔ GoalMissing l q
   pub none-settled : GoalMissing l q → n .settled ≡ length l
   pub none-number : GoalMissing l q → n .number ≡ MARK
-  pub none-route : GoalMissing l q → (n .length ≡ 0) × (r′ .route ≡ r .route)
+  pub none-route : GoalMissing l q → NoRoute n (r .route) (r′ .route)
   pub stopped : (n .kind ≡ 3) ↔ Otherwise l q
   pub stopped-settled : Otherwise l q → n .settled ≡ q .limit
   -- the floor is the least cost of the cell at place k of L
   pub stopped-number : Otherwise l q → (v : ℕ) × At l (q .limit) v × Least (graph f m) (q .start) v (n .number)
-  pub stopped-route : Otherwise l q → (n .length ≡ 0) × (r′ .route ≡ r .route)
+  pub stopped-route : Otherwise l q → NoRoute n (r .route) (r′ .route)
   -- the costs room has the least cost for the first `settled` cells of L and MARK for all others of the map
   pub costs : (i v : ℕ) → At l i v → i < n .settled → Least (graph f m) (q .start) v (getD (r′ .costs) v 0)
   pub marks : (v : ℕ) → v < cells f → ((i : ℕ) → At l i v → n .settled ≤ i) → getD (r′ .costs) v 0 ≡ MARK

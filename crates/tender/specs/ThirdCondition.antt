@@ -26,8 +26,10 @@ timesSquare k f m start ds = times k (squared (lengthOf f m start ds))
 abbrev pub twiceSquare : ℕ → Surd
 twiceSquare c = surd (2 * square c) 0
 
--- n are 01's numbers of an answer: kind 1 is found, 3 stopped. The route room begins with the route
+-- n are the numbers of an answer: kind 1 is found, 3 stopped. The route room begins with the route
 pub record Measured (f : Floor) (m : List ℕ) (start goal : ℕ) (n : AnswerNumbers) (room : List ℕ) : Type 0 where
+  -- P and Q of the answer are those of its route (02, R-6); Sums.antt says what can so be read off an answer or a record alone
+  pub sums : n .kind ≡ 1 → surd (n .p) (n .q) ≡ lengthOf f m start (take (n .length) room)
   -- 9800 × its true length² ≤ 9801 × that of any allowed route for the same question
   pub nearly-shortest : n .kind ≡ 1 → (ds : List ℕ) → Route (graph f m) start goal ds
       → T (atMost (timesSquare 9800 f m start (take (n .length) room)) (timesSquare 9801 f m start ds))

@@ -8,6 +8,7 @@ use Rattle.paths.specs.Graph.{MARK}
 use Rattle.floor.specs.declared.Floor.{Floor}
 use Rattle.floor.specs.declared.Screen.the-variants.{Passed}
 use Rattle.floor.specs.Place.{cells}
+use Rattle.floor.specs.Length.{surd}
 use Rattle.floor.specs.Refusal.{screen}
 use Rattle.answering.specs.declared.Answer.{Answer}
 use Rattle.answering.specs.declared.AnswerNumbers.{AnswerNumbers}
@@ -21,11 +22,12 @@ use Rattle.astar.specs.Astar.{Aimed, AimedCall}
 abbrev pub asPlain : Floor → ℕ → ℕ → Question
 asPlain f start goal = question start goal (cells f)
 
--- 01's numbers of two answers, each with its route room: the same kind, number returned and route; the settled counts may differ
+-- the numbers of two answers, each with its route room: the same kind, number returned and route, with its P and Q; the settled counts may differ
 pub record SameAnswer (n : AnswerNumbers) (room : List ℕ) (k : AnswerNumbers) (room′ : List ℕ) : Type 0 where
   pub kind : n .kind ≡ k .kind
   pub number : n .number ≡ k .number
   pub length : n .length ≡ k .length
+  pub sums : surd (n .p) (n .q) ≡ surd (k .p) (k .q)
   pub route : take (n .length) room ≡ take (k .length) room′
 
 -- of the plain search's numbers and costs room and then A*'s: where A* leaves a cost, the plain search leaves the same, and A*'s count is no greater
