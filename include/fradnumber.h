@@ -24,7 +24,7 @@ extern "C" {
  * be changed for, the minor one with calls, fields at a struct's end or numbers that are new, the patch with all else. It
  * changes here and nowhere else; docs/C.md says what each version brought.
  */
-#define FRADNUMBER_VERSION 20101
+#define FRADNUMBER_VERSION 30000
 
 /*
  * What is wrong: 0, a refusal (1 to 30, and of the route log 61 to 64), a cost table that is not right (40), or a fault in a
@@ -119,6 +119,8 @@ struct fradnumber_answer {
     uint64_t settled; /* how many cells were settled, 0 if refused */
     uint64_t number;  /* the number returned, 0 if refused */
     uint64_t length;  /* the route's length, 0 unless found */
+    uint64_t p;       /* the weights of both cells summed over the route's straight steps, 0 unless found */
+    uint64_t q;       /* the same over its diagonal steps; if found, number is 70 * p + 99 * q */
 };
 
 /*
@@ -140,8 +142,9 @@ struct fradnumber_answer fradnumber_search(uint32_t width, uint32_t height, uint
                                            uint8_t *route, size_t route_length);
 
 /*
- * Searches a least-cost route by A*, for a single question: kind, number and route are those of fradnumber_search with the
- * limit at width * height, and mostly far fewer cells are settled. There is no limit, and no answer is FRADNUMBER_STOPPED.
+ * Searches a least-cost route by A*, for a single question: kind, number, route, p and q are those of fradnumber_search with
+ * the limit at width * height, and mostly far fewer cells are settled. There is no limit, and no answer is
+ * FRADNUMBER_STOPPED.
  *
  * The settled cells are exactly the reachable ones whose least cost plus estimate is at most the goal's least cost, or all
  * reachable cells if the goal is none of them. The estimate is 198 times the smaller of the two coordinate distances to the
@@ -194,12 +197,12 @@ struct fradnumber_written fradnumber_write_map(uint32_t width, uint32_t height,
                                                const uint8_t *map, size_t map_length,
                                                uint8_t *text, size_t text_length);
 
-/* The bytes of a question record and of an answer record. */
-#define FRADNUMBER_RECORD_SIZE 16
+/* The bytes of a question record, of an answer record, and of each record that a logged route fills. */
+#define FRADNUMBER_RECORD_SIZE 32
 
 /* The longest route that can be logged, and the bytes of the entry that holds it: no entry has more. */
 #define FRADNUMBER_LONGEST_LOGGED 4095
-#define FRADNUMBER_LONGEST_ENTRY 4128
+#define FRADNUMBER_LONGEST_ENTRY 4160
 
 struct fradnumber_entry {
     uint64_t refusal; /* enum fradnumber_number, 0 if the rest begins with an entry or is empty */
@@ -235,11 +238,12 @@ struct fradnumber_entry_written {
 /*
  * Writes one entry of a route log. Entries one after the other, with nothing between them, are a file.
  *
- * question and answer point to 16 bytes each and have no length: a null pointer is the caller's fault. The question may be
- * any bytes. The answer can be logged if it is kind 0, a refusal number from 1 to 15 and zeros; or a kind from 1 to 3, three
- * zeros, any settled count, and as number and length: for FRADNUMBER_FOUND any but FRADNUMBER_MARK, and at most
- * FRADNUMBER_LONGEST_LOGGED; for FRADNUMBER_NONE FRADNUMBER_MARK, and 0; for FRADNUMBER_STOPPED any but FRADNUMBER_MARK,
- * and 0. There are as many directions as that length says.
+ * question and answer point to FRADNUMBER_RECORD_SIZE bytes each and have no length: a null pointer is the caller's fault.
+ * The question may be any bytes. The answer can be logged if it is kind 0, a refusal number from 1 to 15 and zeros; or a
+ * kind from 1 to 3, three zeros, any settled count, number, length, P, Q and eight zeros. For FRADNUMBER_FOUND the number is
+ * any but FRADNUMBER_MARK, the length at most FRADNUMBER_LONGEST_LOGGED, and P and Q are any two: whether they give the
+ * number is not tested. For FRADNUMBER_NONE the number is FRADNUMBER_MARK, for FRADNUMBER_STOPPED any other, and for both
+ * length, P and Q are 0. There are as many directions as the length says.
  *
  * The refusals are 62, 63, 64, in this order. The room then begins with the entry, and the rest of it is as it was; all of
  * it is if the entry is refused. What was written reads back the same, and what was read writes back the same bytes.
@@ -265,23 +269,29 @@ static inline void fradnumber_put_number(uint8_t *record, size_t at, uint32_t nu
     for (i = 0; i < 4; i++) record[at + i] = (uint8_t)(number >> (8 * i));
 }
 
-/* Start, goal and limit at 0, 4 and 8, ways at 12. Ways above 255 spoil the three zeros after it, and so are not lost. */
+/* Start, goal and limit at 0, 4 and 8, ways at 12, 19 zeros. Ways above 255 spoil the first zeros, and so are not lost. */
 static inline void fradnumber_put_question(uint8_t record[FRADNUMBER_RECORD_SIZE],
                                            uint32_t start, uint32_t goal, uint32_t limit, uint32_t ways)
 {
+    size_t at;
     fradnumber_put_number(record, 0, start);
     fradnumber_put_number(record, 4, goal);
     fradnumber_put_number(record, 8, limit);
     fradnumber_put_number(record, 12, ways);
+    for (at = 16; at < FRADNUMBER_RECORD_SIZE; at++) record[at] = 0;
 }
 
-/* Kind at 0, refusal at 1, two zeros; settled, number and length at 4, 8 and 12. A record has no place. */
+/* Kind at 0, refusal at 1, two zeros; settled, number, length, P and Q at 4, 8, 12, 16, 20; eight zeros. It has no place. */
 static inline void fradnumber_put_answer(uint8_t record[FRADNUMBER_RECORD_SIZE], struct fradnumber_answer answer)
 {
+    size_t at;
     fradnumber_put_number(record, 0, (uint32_t)(answer.kind | (answer.refusal << 8)));
     fradnumber_put_number(record, 4, (uint32_t)answer.settled);
     fradnumber_put_number(record, 8, (uint32_t)answer.number);
     fradnumber_put_number(record, 12, (uint32_t)answer.length);
+    fradnumber_put_number(record, 16, (uint32_t)answer.p);
+    fradnumber_put_number(record, 20, (uint32_t)answer.q);
+    for (at = 24; at < FRADNUMBER_RECORD_SIZE; at++) record[at] = 0;
 }
 
 #ifdef __cplusplus
