@@ -5,8 +5,8 @@
  *   historian LOG MAP    the same, and whether each route that was found holds on that map, a file of map text
  *
  * A route is printed as digits, a step each: 0 N, 1 NE, 2 E, 3 SE, 4 S, 5 SW, 6 W, 7 NW.
- * Exit status: 0 if the log is whole and all routes that were checked hold, 1 if not or if the map is refused, 2 if the log
- * cannot be read.
+ * Exit status: 0 if the log is whole, each cost is what P and Q give, and all routes that were checked hold, 1 if not or if the
+ * map is refused, 2 if the log cannot be read.
  */
 #include <stdio.h>
 #include <string.h>
@@ -29,27 +29,35 @@ static void go_on(FILE *file, size_t taken)
     rest_length += fread(rest + rest_length, 1, sizeof rest - rest_length, file);
 }
 
-/* The byte of the ways and the three zeros after it, as one number: where those are not 0, it is no ways that the check takes. */
-static uint32_t ways_in(const uint8_t *question)
-{
-    return fradnumber_number_at(question, 12);
-}
-
 static void print_question(const uint8_t *question)
 {
-    printf("%lu to %lu, %lu ways, limit %lu: ", (unsigned long)fradnumber_number_at(question, 0),
-           (unsigned long)fradnumber_number_at(question, 4), (unsigned long)ways_in(question),
-           (unsigned long)fradnumber_number_at(question, 8));
+    printf("%lu to %lu, %d ways, limit %lu: ", (unsigned long)fradnumber_number_at(question, 0),
+           (unsigned long)fradnumber_number_at(question, 4), question[12], (unsigned long)fradnumber_number_at(question, 8));
+}
+
+/* The log does not test them. */
+static int sums_give_the_cost(const uint8_t *answer)
+{
+    uint64_t p = fradnumber_number_at(answer, 16), q = fradnumber_number_at(answer, 20);
+    return 70 * p + 99 * q == fradnumber_number_at(answer, 8);
+}
+
+static void print_found(const uint8_t *answer, uint64_t length)
+{
+    uint64_t step;
+    printf("found at cost %lu, P %lu, Q %lu, %lu settled, route %s", (unsigned long)fradnumber_number_at(answer, 8),
+           (unsigned long)fradnumber_number_at(answer, 16), (unsigned long)fradnumber_number_at(answer, 20),
+           (unsigned long)fradnumber_number_at(answer, 4), length == 0 ? "-" : "");
+    for (step = 0; step < length; step++) putchar('0' + route[step]);
+    if (!sums_give_the_cost(answer)) printf(", P AND Q DO NOT GIVE THE COST");
 }
 
 static void print_answer(const uint8_t *answer, uint64_t length)
 {
     unsigned long settled = fradnumber_number_at(answer, 4), number = fradnumber_number_at(answer, 8);
-    uint64_t step;
     switch (answer[0]) {
     case FRADNUMBER_FOUND:
-        printf("found at cost %lu, %lu settled, route %s", number, settled, length == 0 ? "-" : "");
-        for (step = 0; step < length; step++) putchar('0' + route[step]);
+        print_found(answer, length);
         break;
     case FRADNUMBER_NONE:
         printf("none, %lu settled", settled);
@@ -60,6 +68,15 @@ static void print_answer(const uint8_t *answer, uint64_t length)
     default: /* 13 is the program's alone, and no number of the header */
         printf("refused %d: %s", answer[1], answer[1] == 13 ? "the question does not end in zeros" : in_words(answer[1]));
     }
+}
+
+/* The ways to check a route with; none that the check takes, where the question does not end in zeros. */
+static uint32_t ways_in(const uint8_t *question)
+{
+    size_t at;
+    for (at = 13; at < FRADNUMBER_RECORD_SIZE; at++)
+        if (question[at] != 0) return 0;
+    return question[12];
 }
 
 /* 1 if the logged route holds on the map. */
@@ -91,7 +108,10 @@ static int print_log(FILE *file, int with_map)
         printf("byte %lu: ", at);
         print_question(entry.question);
         print_answer(entry.answer, entry.length);
-        if (with_map && entry.answer[0] == FRADNUMBER_FOUND && !check(&entry)) all = 0;
+        if (entry.answer[0] == FRADNUMBER_FOUND) {
+            if (!sums_give_the_cost(entry.answer)) all = 0;
+            if (with_map && !check(&entry)) all = 0;
+        }
         putchar('\n');
         at += (unsigned long)entry.taken;
         count++;

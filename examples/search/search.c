@@ -4,7 +4,8 @@
  *   search FILE                         questions from a file (see questions.txt)
  *   search MAP WAYS START GOAL LIMIT    one question about a file of map text
  *
- * A route is printed as digits, a step each: 0 N, 1 NE, 2 E, 3 SE, 4 S, 5 SW, 6 W, 7 NW.
+ * A route is printed as digits, a step each: 0 N, 1 NE, 2 E, 3 SE, 4 S, 5 SW, 6 W, 7 NW. P and Q are the weights of both cells, summed
+ * over its straight and its diagonal steps; its true length is P + Q times the root of 2.
  * Exit status: 0 if every question was answered, 1 if a map or a question was refused, 2 if the input cannot be read.
  */
 #include <stdio.h>
@@ -34,7 +35,8 @@ static int ask(uint32_t start, uint32_t goal, uint32_t limit)
                                                         costs, MOST_CELLS, work, 2 * MOST_CELLS, route, MOST_CELLS);
     switch (answer.kind) {
     case FRADNUMBER_FOUND:
-        printf("found at cost %lu, %lu settled, route ", (unsigned long)answer.number, (unsigned long)answer.settled);
+        printf("found at cost %lu, P %lu, Q %lu, %lu settled, route ", (unsigned long)answer.number, (unsigned long)answer.p,
+               (unsigned long)answer.q, (unsigned long)answer.settled);
         print_route(answer.length);
         putchar('\n');
         return 1;
