@@ -81,7 +81,9 @@ fn compare_aimed(kind: Kind, side: usize, goal: Goal) -> Result<usize, String> {
     for variant in &variants {
         let aimed = compare(&ASTAR, variant, &rooms)?;
         let searched = compare(&SEARCH, variant, &rooms)?;
-        if (aimed.kind, aimed.number, aimed.length) != (1, searched.number, searched.length) {
+        // the count of settled cells is A*'s own
+        let as_searched = Answer { settled: aimed.settled, ..searched };
+        if aimed.kind != 1 || aimed != as_searched {
             return Err(format!("{aimed:?}, but the search finds {searched:?}, of {}", in_words(variant)));
         }
     }

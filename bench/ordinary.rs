@@ -1,7 +1,7 @@
 //! An ordinary planner: Dijkstra's search with the standard library's binary heap and lazy deletion. It gives the same
 //! refusals and answers as the proved search and leaves the same in the rooms, and shares no code with it.
 
-use crate::question::{Answer, Question, Rooms, MARK};
+use crate::question::{Answer, Question, Rooms, Walked, MARK};
 use std::cmp::Reverse;
 use std::collections::BinaryHeap;
 
@@ -149,8 +149,7 @@ fn settle(floor: &Floor, question: &Question, costs: &mut [u32], route: &mut [u8
         settled += 1;
         if cell == goal {
             forget_seen(open, costs);
-            let length = write_route(floor, costs, start, goal, route);
-            return Answer::found(settled, cost, length);
+            return Answer::found(settled, cost, write_route(floor, costs, start, goal, route));
         }
         let (x, y) = floor.place_of(cell);
         let left = floor.weight(cell);
@@ -176,18 +175,24 @@ fn forget_seen(open: Open, costs: &mut [u32]) {
     }
 }
 
-/// Writes the first least-cost route and gives its length: back from the goal, at each cell by the lowest direction.
-pub fn write_route(floor: &Floor, costs: &[u32], start: usize, goal: usize, route: &mut [u8]) -> usize {
-    let mut length = 0;
+/// Writes the first least-cost route: back from the goal, at each cell by the lowest direction. Its sums are taken on the way.
+pub fn write_route(floor: &Floor, costs: &[u32], start: usize, goal: usize, route: &mut [u8]) -> Walked {
+    let mut walked = Walked::default();
     let mut cell = goal;
     while cell != start {
         let (direction, from) = last_step(floor, costs, cell);
-        route[length] = direction as u8;
-        length += 1;
+        let weight = floor.weight(from) + floor.weight(cell);
+        if direction % 2 == 0 {
+            walked.p += weight;
+        } else {
+            walked.q += weight;
+        }
+        route[walked.length as usize] = direction as u8;
+        walked.length += 1;
         cell = from;
     }
-    route[..length].reverse();
-    length
+    route[..walked.length as usize].reverse();
+    walked
 }
 
 /// The lowest direction of a step that gives a settled cell its cost, and the cell that it leaves.

@@ -67,8 +67,7 @@ fn settle(floor: &Floor, aim: &Aim, question: &Question, costs: &mut [u32], rout
     if costs[goal] == MARK {
         return Answer::none(settled);
     }
-    let length = write_route(floor, costs, start, goal, route);
-    Answer::found(settled, costs[goal], length)
+    Answer::found(settled, costs[goal], write_route(floor, costs, start, goal, route))
 }
 
 fn expand(floor: &Floor, aim: &Aim, cell: usize, costs: &mut [u32], open: &mut Open) {

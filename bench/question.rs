@@ -29,6 +29,17 @@ pub struct Answer {
     pub settled: u64,
     pub number: u64,
     pub length: u64,
+    pub p: u64,
+    pub q: u64,
+}
+
+/// What an answer tells of the route that was found: its length, and the weights of both cells summed over its straight and
+/// over its diagonal steps.
+#[derive(Default)]
+pub struct Walked {
+    pub length: u32,
+    pub p: u32,
+    pub q: u32,
 }
 
 impl Answer {
@@ -36,8 +47,10 @@ impl Answer {
         Answer { kind: 0, refusal, place: place as u64, ..Answer::default() }
     }
 
-    pub fn found(settled: u32, cost: u32, length: usize) -> Answer {
-        Answer { kind: 1, settled: settled.into(), number: cost.into(), length: length as u64, ..Answer::default() }
+    pub fn found(settled: u32, cost: u32, walked: Walked) -> Answer {
+        let Walked { length, p, q } = walked;
+        let (length, p, q) = (length.into(), p.into(), q.into());
+        Answer { kind: 1, settled: settled.into(), number: cost.into(), length, p, q, ..Answer::default() }
     }
 
     pub fn none(settled: u32) -> Answer {
