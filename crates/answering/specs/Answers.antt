@@ -26,10 +26,15 @@ answered measure Kind.stopped a = Stopped (a .settled) (a .number)
 abbrev pub answerBy : Floor → List ℕ → ℕ → Row → Answer
 answerBy f m start a = answered (routeLength f m start) (a .kind) a
 
--- the paper's numbers of an answer: kind (0 refused, 1 found, 2 none, 3 stopped), refusal number and place, settled count, number returned, route length, and
--- P and Q (02, R-6)
+-- the numbers of an answer that has no route: its length, P and Q are 0
+abbrev pub withoutRoute : ℕ → ℕ → ℕ → ℕ → ℕ → AnswerNumbers
+withoutRoute kind refusal place settled number =
+    record { kind = kind; refusal = refusal; place = place; settled = settled; number = number; length = 0; p = 0; q = 0 }
+
+-- the paper's numbers of an answer: kind (0 refused, 1 found, 2 none, 3 stopped), refusal number and place, settled count, number returned; and, if found, route
+-- length, P and Q (02, R-6)
 abbrev pub numbersOf : Answer → AnswerNumbers
-numbersOf (Answer.Refused n p) = record { kind = 0; refusal = n; place = p; settled = 0; number = 0; length = 0; p = 0; q = 0 }
+numbersOf (Answer.Refused n p) = withoutRoute 0 n p 0 0
 numbersOf (Found s c l) = record { kind = 1; refusal = 0; place = 0; settled = s; number = c; length = l .steps; p = l .p; q = l .q }
-numbersOf (None s) = record { kind = 2; refusal = 0; place = 0; settled = s; number = MARK; length = 0; p = 0; q = 0 }
-numbersOf (Stopped s c) = record { kind = 3; refusal = 0; place = 0; settled = s; number = c; length = 0; p = 0; q = 0 }
+numbersOf (None s) = withoutRoute 2 0 0 s MARK
+numbersOf (Stopped s c) = withoutRoute 3 0 0 s c

@@ -67,9 +67,10 @@ fn kind_fits(n: AnswerNumbers) -> bool
     ensures { λ r. ⌜ r ≡ kindFits n ⌝ }
 {
     let number = n.number;
+    let length = n.length;
     if n.kind == 1 {
         if number != MARK as u64 {
-            return n.length <= GREATEST_LENGTH;
+            return length <= GREATEST_LENGTH;
         }
         return false;
     }

@@ -11,7 +11,7 @@ cast-if2 c = search needs
 
 returns : tie.Need-returns
 unfolding kindFits
-returns c = rw (c .before .before .if1 .taken, ne-eqb _ _ (c .before .if2 .taken))
+returns c = rw (c .before .if1 .taken, ne-eqb _ _ (c .if2 .taken))
 
 returns-2 : tie.Need-returns-2
 unfolding kindFits
