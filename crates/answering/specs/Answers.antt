@@ -1,4 +1,4 @@
--- The row of 01's table that answers a question, a row as an answer, and an answer as 01's numbers.
+-- The row of 01's table that answers a question, a row as an answer, and an answer as the paper's numbers.
 use mathlib.Core.List.{List}
 use Prim.Native.Nat.{ℕ}
 use Rattle.paths.specs.Graph.{MARK}
@@ -16,13 +16,13 @@ use Rattle.answering.specs.Question.{Question}
 abbrev pub rowOf : Floor → List ℕ → Question → List ℕ → Row
 rowOf f m q t = answerOf (graph f m) (q .start) t (q .goal) (q .limit)
 
--- a row as the answer of a search, with routes measured as they are: settled count, number returned and how long the route is
+-- a row as the answer of a search: settled count, number returned, and how long its route is by a measure of routes
 abbrev pub answered : (List ℕ → RouteLength) → Kind → Row → Answer
 answered measure Kind.found a = Found (a .settled) (a .number) (measure (a .route))
 answered measure Kind.none a = None (a .settled)
 answered measure Kind.stopped a = Stopped (a .settled) (a .number)
 
--- a row as the answer to a question about a floor, from that start
+-- and so of a floor, from a start: the measure is steps, P and Q
 abbrev pub answerBy : Floor → List ℕ → ℕ → Row → Answer
 answerBy f m start a = answered (routeLength f m start) (a .kind) a
 

@@ -1,7 +1,7 @@
 // What every search answers, and what it does with the rooms lent to it before and after: refusals 1 to 11, a room filled, an answer in numbers.
 // A part that the engines share and no entry. specs/Answers.antt says what an answer is, specs/Rooms.antt what becomes of the rooms.
 
-pub mod numbers; // numbers.rt: an answer as 01's numbers
+pub mod numbers; // numbers.rt: an answer as the paper's numbers
 pub mod rooms; // rooms.rt: refusals 1 to 11, and a room filled
 
 use floor::RouteLength;

@@ -147,7 +147,7 @@ fn cuts_corner(f: Floor, map: &[u8], cell: usize, here: Place, direction: usize)
 // The weight of a step by the weights of the cell left and the cell entered, which are widened before they are added.
 fn weight_between(left: u32, entered: u32) -> u32
     requires { ⌜ (left < 256) × (entered < 256) ⌝ }
-    ensures { λ r. ⌜ (r ≡ left + entered) × (r < 512) ⌝ }
+    ensures { λ r. ⌜ r ≡ left + entered ⌝ }
 {
     left + entered
 }

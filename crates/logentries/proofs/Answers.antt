@@ -12,7 +12,7 @@ use lib.Seq.{getD-drop}
 use Rattle.paths.specs.Graph.{MARK}
 use Rattle.paths.proofs.Bools.{T-and}
 use Rattle.answering.specs.declared.AnswerNumbers.{AnswerNumbers}
-use Rattle.recordlayout.specs.Record.{allZero, answerIn}
+use Rattle.recordlayout.specs.Record.{allZero, endsInEightZeros, answerIn}
 use Rattle.recordlayout.proofs.Zeros.{zero-at}
 use Rattle.logentries.specs.Entry.{greatestRefusal, greatestLength, refusalFits, noRoute, kindFits, canBeLogged, stepsIn}
 
@@ -46,11 +46,11 @@ module _ (a : List ℕ) {n : AnswerNumbers} (read : n ≡ answerIn a) where
     no-zeros e = rw (ne-eqb (answerIn a .kind) 0 other-kind, e)
 
     module _ (zeros : allZero (take 3 (drop 1 a)) ≡ true) where
-      pub no-end-zeros : allZero (drop 24 a) ≡ false → canBeLogged a ≡ false
+      pub no-end-zeros : endsInEightZeros a ≡ false → canBeLogged a ≡ false
       unfolding canBeLogged
       no-end-zeros e = rw (ne-eqb (answerIn a .kind) 0 other-kind, zeros, e)
 
-      pub by-kind : allZero (drop 24 a) ≡ true → canBeLogged a ≡ kindFits n
+      pub by-kind : endsInEightZeros a ≡ true → canBeLogged a ≡ kindFits n
       unfolding canBeLogged
       by-kind e = rw (ne-eqb (answerIn a .kind) 0 other-kind, zeros, e, ← read)
 
@@ -84,12 +84,12 @@ steps-of a = go (eqb (answerIn a .kind) 0)
     no-length z = omega (arith, none 10 z, none 11 z, none 12 z, none 13 z)
 
     go : (k : Bool)
-        → T (cond k (refusalFits (answerIn a .refusal) && allZero (drop 2 a)) (allZero (take 3 (drop 1 a)) && (allZero (drop 24 a) && kindFits (answerIn a))))
+        → T (cond k (refusalFits (answerIn a .refusal) && allZero (drop 2 a)) (allZero (take 3 (drop 1 a)) && (endsInEightZeros a && kindFits (answerIn a))))
         → ((answerIn a .kind ≡ 1) × (stepsIn a ≤ greatestLength)) ⊎ (stepsIn a ≡ 0)
     go true t = inr (no-length (T-and (refusalFits (answerIn a .refusal)) (allZero (drop 2 a)) t .1))
     go false t =
         kind-steps (answerIn a)
-        (T-and (allZero (drop 24 a)) (kindFits (answerIn a)) (T-and (allZero (take 3 (drop 1 a))) (allZero (drop 24 a) && kindFits (answerIn a)) t .1) .1)
+        (T-and (endsInEightZeros a) (kindFits (answerIn a)) (T-and (allZero (take 3 (drop 1 a))) (endsInEightZeros a && kindFits (answerIn a)) t .1) .1)
 
 pub steps-few : (a : List ℕ) → T (canBeLogged a) → stepsIn a ≤ greatestLength
 steps-few a t = ⊎-elim (λ found. found .1) (λ none. omega arith) (steps-of a t)

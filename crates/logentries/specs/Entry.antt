@@ -7,7 +7,7 @@ use lib.Dec.{T, eqb, leb, ltb}
 use lib.ListN.{length, take, drop, replicate}
 use Rattle.paths.specs.Graph.{MARK}
 use Rattle.answering.specs.declared.AnswerNumbers.{AnswerNumbers}
-use Rattle.recordlayout.specs.Record.{recordSize, allZero, answerIn}
+use Rattle.recordlayout.specs.Record.{recordSize, allZero, endsInEightZeros, answerIn}
 
 -- the question record, the answer record, and the directions of the route
 pub record Entry : Type 0 where
@@ -58,7 +58,7 @@ kindFits n =
 unfoldable pub canBeLogged : List ℕ → Bool
 canBeLogged a =
     let n = answerIn a in
-    cond (eqb (n .kind) 0) (refusalFits (n .refusal) && allZero (drop 2 a)) (allZero (take 3 (drop 1 a)) && (allZero (drop 24 a) && kindFits n))
+    cond (eqb (n .kind) 0) (refusalFits (n .refusal) && allZero (drop 2 a)) (allZero (take 3 (drop 1 a)) && (endsInEightZeros a && kindFits n))
 
 -- how many directions an answer has: as many as its length says, which is 0 for every answer but found
 abbrev pub stepsIn : List ℕ → ℕ

@@ -38,6 +38,10 @@ abbrev pub recordFor : AnswerNumbers → List ℕ
 recordFor n =
     n .kind ∷ n .refusal ∷ 0 ∷ 0 ∷ little (n .settled) ++ little (n .number) ++ little (n .length) ++ little (n .p) ++ little (n .q) ++ replicate 8 0
 
+-- an answer record ends in eight zeros
+abbrev pub endsInEightZeros : List ℕ → Bool
+endsInEightZeros bytes = allZero (drop 24 bytes)
+
 unfoldable pub recordOf : Answer → List ℕ
 recordOf a = recordFor (numbersOf a)
 

@@ -22,7 +22,7 @@ weight-between-requires c κs = search needs
 
 returns : tie.Need-returns
 unfolding stepWeight
-returns c = c .weight-between .ensures .0 ∙ rw (c .before .widened2 .ensures .0, c .before .before .before .widened .ensures .0)
+returns c = c .weight-between .ensures ∙ rw (c .before .widened2 .ensures .0, c .before .before .before .widened .ensures .0)
 
 pub step-weight-spec : {M : Type 1} → statement M
 step-weight-spec =
