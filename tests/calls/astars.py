@@ -36,10 +36,10 @@ def refusal(case):
 
 
 def answer(case, costs, work, route):
-    """Kind, refusal, place, settled, number returned and route length; alters the rooms as A* must."""
+    """Kind, refusal, place, settled, number returned, route length, P and Q; alters the rooms as A* must."""
     refused = refusal(case)
     if refused is not None:
-        return [0, *refused, 0, 0, 0]
+        return [0, *refused, 0, 0, 0, 0, 0]
     start, goal, size = case["start"], case["goal"], len(case["cells"])
     table, least = searches.known_costs(case)
     settled = [cell for cell in range(size) if is_settled(case, least, cell)]
@@ -48,10 +48,10 @@ def answer(case, costs, work, route):
         costs[cell] = least[cell]
     work[: 2 * size] = [0] * (2 * size)
     if least[goal] is None:
-        return [2, 0, 0, len(settled), MARK, 0]
+        return [2, 0, 0, len(settled), MARK, 0, 0, 0]
     steps = searches.first_route(table, least, start, goal)
     route[: len(steps)] = steps
-    return [1, 0, 0, len(settled), least[goal], len(steps)]
+    return searches.found(case, len(settled), least[goal], steps)
 
 
 def asked(case, answer_of):
@@ -66,7 +66,7 @@ def assert_as_search(case):
     size = case["width"] * case["height"]
     numbers, (costs, work, route) = asked(case, answer)
     searched, (plain_costs, plain_work, plain_route) = asked({**case, "limit": size or 1}, searches.answer)
-    without_settled = lambda six: six[:3] + six[4:]
+    without_settled = lambda eight: eight[:3] + eight[4:]
     assert without_settled(numbers) == without_settled(searched), case
     assert (costs[size:], work, route) == (plain_costs[size:], plain_work, plain_route), case
 

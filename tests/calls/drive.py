@@ -8,6 +8,7 @@ import subprocess
 import sys
 from pathlib import Path
 
+import logs
 import plain
 import wire
 
@@ -26,7 +27,8 @@ def numbers(data):
 def words(call, reply):
     if numbers(call[:8])[1] == wire.DIGEST:
         return "digest %s" % numbers(reply)
-    return "numbers %s, rooms %s" % (numbers(reply[:24]), reply[24:].hex(" "))
+    rooms = 4 * wire.FRONT
+    return "numbers %s, rooms %s" % (numbers(reply[:rooms]), reply[rooms:].hex(" "))
 
 
 def compare(made, calls, due, output):
@@ -56,7 +58,7 @@ def endings():
         length = second[32 + 8 * place]
         yield f"more given than the room for {name} has", [first, with_number(9 + 2 * place, length + 1), first], due
     for what in (wire.READ_ENTRY, wire.WRITE_ENTRY):
-        for length in (0, 31):
+        for length in (0, logs.HEAD - 1):
             made.call(what, "no room for two records", lambda **_: [0, 0], map=(length, wire.OLD_BYTE))
             yield f"a map room of {length} for {wire.ENTRIES[what]}", [first, made.made[-1][1], first], due
     for length in (1, 71, 72, 77, 78, len(second) - 1):

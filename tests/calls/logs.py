@@ -1,4 +1,4 @@
-"""Route logs to read and entries to write, and what is due: from the text of R-1 (02) alone.
+"""Route logs to read and entries to write, and what is due: from the text of R-1 (02) alone, with R-6's records.
 
 How the expectation is produced: what an answer and a route of a log may be is said as patterns of their bytes, and an entry is put together from its
 parts. All cases that are not listed one by one come from a generator with a fixed seed.
@@ -6,22 +6,24 @@ parts. All cases that are not listed one by one come from a generator with a fix
 import itertools
 import random
 import re
-import struct
 
 import wire
+from records import ANSWER_FORM, EXAMPLE_ANSWER, EXAMPLE_QUESTION, OLD_RECORD, RECORD
 
 MARK = 4294967295
-RECORD, HEAD, LONGEST = 16, 32, 4095
+HEAD, LONGEST = 2 * RECORD, 4095
 
 # "An answer must be: kind 0, a refusal number from 1 to 15, zeros after it; or refusal number 0, two zeros, and kind 1 with a cost that isn't MARK and a
-# length up to 4,095, kind 2 with MARK and length 0, or kind 3 with a floor that isn't MARK and length 0." The settled count may be any.
+# length up to 4,095, kind 2 with MARK and length 0, or kind 3 with a floor that isn't MARK and length 0." The settled count may be any. R-6: "62 also if one of
+# these eight isn't 0, or P or Q isn't 0 in an answer other than found; P and Q aren't tested against the cost".
 ANSWER = re.compile(
-    rb"""\x00 [\x01-\x0f] \x00{14}
-       | \x01 \x00{3} .{4} (?!\xff{4}) .{4} . [\x00-\x0f] \x00{2}
-       | \x02 \x00{3} .{4} \xff{4} \x00{4}
-       | \x03 \x00{3} .{4} (?!\xff{4}) .{4} \x00{4}""",
+    rb"""\x00 [\x01-\x0f] \x00*
+       | \x01 \x00{3} .{4} (?!\xff{4}) .{4} . [\x00-\x0f] \x00{2} .{8} \x00{8}
+       | \x02 \x00{3} .{4} \xff{4} \x00{4} \x00{8} \x00{8}
+       | \x03 \x00{3} .{4} (?!\xff{4}) .{4} \x00{4} \x00{8} \x00{8}""",
     re.DOTALL | re.VERBOSE,
 )
+P_AND_Q, LAST_EIGHT = range(16, 24), range(24, 32)  # places in an answer
 
 
 # ---- what is due -----------------------------------------------------------------------------------------------------
@@ -32,7 +34,7 @@ class Refused(Exception):
 
 
 def length_of(answer):
-    return int.from_bytes(answer[12:], "little")
+    return int.from_bytes(answer[12:16], "little")
 
 
 def read(rest, room):
@@ -99,13 +101,6 @@ def write_into(map, route, text, **_):
 # ---- calls -----------------------------------------------------------------------------------------------------------
 
 
-def given(made, name, entries):
-    """What a call gives so that a room holds these bytes: nothing where it holds them already, one where all are alike."""
-    if bytes(made.rooms[name][: len(entries)]) == entries:
-        return b""
-    return entries[:1] if len(set(entries)) == 1 else entries
-
-
 def shown(data):
     return data[:64].hex(" ") + (" .." if len(data) > 64 else "")
 
@@ -113,7 +108,7 @@ def shown(data):
 def reading(made, about, rest, room):
     """One entry from the rest of a file."""
     about = "%s; a room of %d, a rest of %d bytes %s" % (about, room, len(rest), shown(rest))
-    text = len(rest), given(made, "text", rest)
+    text = len(rest), made.given("text", rest)
     return made.call(wire.READ_ENTRY, about, read_into, map=(HEAD, wire.OLD_BYTE), route=(room, wire.OLD_BYTE), text=text)
 
 
@@ -134,25 +129,28 @@ def writing(made, about, question, answer, directions, spare=0):
     """An entry, into a room that has `spare` bytes more than the directions that are given need."""
     head, room = question + answer, len(entry_of(question, answer, directions)) + spare
     about = "%s; a room of %d, question and answer %s, %d directions %s" % (about, room, shown(head), len(directions), shown(directions))
-    rooms = {"map": (HEAD, given(made, "map", head)), "route": (len(directions), given(made, "route", directions))}
+    rooms = {"map": (HEAD, made.given("map", head)), "route": (len(directions), made.given("route", directions))}
     return made.call(wire.WRITE_ENTRY, about, write_into, text=(room, wire.OLD_BYTE), **rooms)
 
 
 # ---- parts of entries --------------------------------------------------------------------------------------------------
 
-QUESTION = bytes.fromhex("00000000020000000500000008000000")  # 01's example
+QUESTION = EXAMPLE_QUESTION
 
 
-def record(kind, refusal=0, settled=5, number=560, length=0):
-    return struct.pack("<BBxxIII", kind, refusal, settled, number, length)
+def record(kind, refusal=0, settled=5, number=560, length=0, p=0, q=0):
+    return ANSWER_FORM.pack(kind, refusal, settled, number, length, p, q)
 
 
 def refused(number):
     return record(0, number, 0, 0)
 
 
-def found(length):
-    return record(1, length=length)
+def found(length, p=8, q=0):
+    return record(1, length=length, p=p, q=q)
+
+
+NONE, STOPPED = record(2, number=MARK), record(3)
 
 
 def steps(length):
@@ -173,17 +171,17 @@ def spoiled(data, place, byte):
 
 def example_of_01(made):
     """Case a's question, answer and route."""
-    answer = bytes.fromhex("01000000050000003002000004000000")
-    entry = bytes.fromhex("00000000020000000500000008000000 01000000050000003002000004000000 04020200ffffffffffffffffffffffff")
-    assert written(QUESTION, answer, bytes([4, 2, 2, 0]), 48) == entry
-    assert read(entry, 4) == (QUESTION, answer, bytes([4, 2, 2, 0]), 48)
-    writing(made, "01's example", QUESTION, answer, bytes([4, 2, 2, 0]))
+    answer, route = EXAMPLE_ANSWER, bytes([4, 2, 2, 0])
+    entry = QUESTION + answer + bytes.fromhex("04020200" + "ff" * 28)
+    assert written(QUESTION, answer, route, 96) == entry
+    assert read(entry, 4) == (QUESTION, answer, route, 96)
+    writing(made, "01's example", QUESTION, answer, route)
     reading(made, "01's example", entry, 4)
 
 
 def lengths(made):
     """Routes around the ends of records: rooms that just suffice, are too short or are longer; a count that is wrong; a rest that goes on."""
-    for length in (0, 1, 15, 16, 17, 31, 32):
+    for length in (0, 1, 31, 32, 33, 63, 64, 65):
         for spare in (0, -1, 5):
             writing(made, "length %d" % length, QUESTION, found(length), steps(length), spare)
         # what the writer left in the longer room, with the old bytes after it
@@ -195,28 +193,34 @@ def lengths(made):
                 writing(made, "length %d" % length, QUESTION, found(length), steps(count), 5)
 
 
-def greatest_length(made):
-    """4,095 directions, and one more, which cannot be logged. They are all alike, so that they need not be stored."""
-    alike, entry = bytes([5]) * LONGEST, entry_of(QUESTION, found(LONGEST), bytes([5]) * LONGEST)
-    for spare in (-1, 0, 9):
-        writing(made, "greatest length", QUESTION, found(LONGEST), alike, spare)
-    for room in (LONGEST, LONGEST - 1, LONGEST + 1, 0):
-        reading(made, "greatest length", entry + bytes(wire.OLD_BYTE * 9), room)
-    for short in (0, 1, RECORD, RECORD + 1, LONGEST):
-        reading(made, "greatest length, cut by %d" % short, entry[: len(entry) - short], LONGEST)
+def great_lengths(made):
+    """4,095 directions, and one more, which cannot be logged; those that just fill the last record but one, and one more. They are all alike, so that they need
+    not be stored."""
+    for length in (4064, 4065, LONGEST):
+        about, answer, alike = "length %d" % length, found(length), bytes([5]) * length
+        entry = entry_of(QUESTION, answer, alike)
+        for spare in (-1, 0, 9):
+            writing(made, about, QUESTION, answer, alike, spare)
+        for room in (length, length - 1, length + 1, 0):
+            reading(made, about, entry + bytes(wire.OLD_BYTE * 9), room)
+        for short in (0, 1, RECORD - 1, RECORD, RECORD + 1, LONGEST):
+            reading(made, "%s, cut by %d" % (about, short), entry[: len(entry) - short], length)
+        for count in (length - 1, length + 1):
+            writing(made, about, QUESTION, answer, bytes([5]) * count)
     for place, byte in ((HEAD + LONGEST, 254), (HEAD + LONGEST - 1, 8)):
-        reading(made, "greatest length, byte %d is %d" % (place, byte), spoiled(entry, place, byte), LONGEST)
-    for count in (LONGEST - 1, LONGEST + 1):
-        writing(made, "greatest length", QUESTION, found(LONGEST), bytes([5]) * count)
-    writing(made, "one more", QUESTION, found(LONGEST + 1), bytes([5]) * (LONGEST + 1))
+        reading(made, "length %d, byte %d is %d" % (LONGEST, place, byte), spoiled(entry, place, byte), LONGEST)
+    one_more = found(LONGEST + 1)
+    writing(made, "one more", QUESTION, one_more, bytes([5]) * (LONGEST + 1))
+    reading(made, "one more", QUESTION + one_more, LONGEST + 1)
 
 
 def whole_rooms(made):
     """The program's longest rest: entries without end. Rooms that are longer than what an entry needs."""
     entry = found_entry(1)
     rest, room = entry * (wire.LENGTHS["text"] // len(entry)), wire.LENGTHS["route"]
-    made.call(wire.READ_ENTRY, "whole rooms", read_into, map=(40, wire.OLD_BYTE), route=(room, wire.OLD_BYTE), text=(len(rest), entry))
-    made.call(wire.WRITE_ENTRY, "whole rooms", write_into, map=(40, ()), route=(1, ()), text=(wire.LENGTHS["text"], wire.OLD_BYTE))
+    longer = HEAD + 8
+    made.call(wire.READ_ENTRY, "whole rooms", read_into, map=(longer, wire.OLD_BYTE), route=(room, wire.OLD_BYTE), text=(len(rest), entry))
+    made.call(wire.WRITE_ENTRY, "whole rooms", write_into, map=(longer, ()), route=(1, ()), text=(wire.LENGTHS["text"], wire.OLD_BYTE))
 
 
 def answers():
@@ -233,9 +237,21 @@ def answers():
     yield record(1, number=MARK, length=3)
 
 
+def answers_of_r6():
+    """P and Q of found may be any numbers; in another answer each of their bytes is 0, and in any answer each of the last eight."""
+    numbers = (0, 1, 8, 560, MARK - 1, MARK)
+    yield from (found(length, p, q) for length in (0, 4) for p, q in itertools.product(numbers, numbers))
+    for answer in (refused(1), refused(15), NONE, STOPPED):
+        yield from (spoiled(answer, place, byte) for place in P_AND_Q for byte in (1, 255))
+        yield answer[:16] + b"\xff" * 8 + answer[24:]
+    for answer in (refused(7), found(0), found(4, MARK, MARK), NONE, STOPPED):
+        yield from (spoiled(answer, place, byte) for place in LAST_EIGHT for byte in (1, 255))
+        yield answer[:24] + b"\xff" * 8
+
+
 def each_answer(made):
     """In both directions, with as many steps as the answer says, if these are few."""
-    for answer in answers():
+    for answer in [*answers(), *answers_of_r6()]:
         directions = steps(length_of(answer) if length_of(answer) <= RECORD else 7)
         writing(made, "an answer", QUESTION, answer, directions)
         reading(made, "an answer", entry_of(QUESTION, answer, directions), RECORD)
@@ -243,7 +259,7 @@ def each_answer(made):
 
 def any_if_not_found(made):
     """Directions with an answer that has no route."""
-    for answer in (refused(1), refused(15), record(2, number=MARK), record(3), found(0)):
+    for answer in (refused(1), refused(15), NONE, STOPPED, found(0)):
         for count in (1, RECORD):
             writing(made, "any direction", QUESTION, answer, steps(count))
         writing(made, "no such direction", QUESTION, answer, b"\xff")
@@ -269,52 +285,66 @@ def with_direction(length, place, byte):
 
 def wrong_directions(made):
     """The first byte that is no direction, at both ends of routes and at every place of one; the last that is one; the greatest."""
-    ends = [(length, place, 8) for length in (1, 15, 16, 17, 31, 32) for place in sorted({0, length - 1})]
-    for length, place, byte in [*ends, (16, 0, 7), (16, 15, 7), (16, 0, 255), (16, 15, 255)]:
+    ends = [(length, place, 8) for length in (1, 31, 32, 33, 63, 64) for place in sorted({0, length - 1})]
+    for length, place, byte in [*ends, (32, 0, 7), (32, 31, 7), (32, 0, 255), (32, 31, 255)]:
         about, directions, entry = with_direction(length, place, byte)
         writing(made, about, QUESTION, found(length), directions)
         reading(made, about, entry, length)
-    for place in range(1, 16):
-        about, _, entry = with_direction(17, place, 8)
-        reading(made, about, entry, 17)
+    for place in range(1, 32):
+        about, _, entry = with_direction(33, place, 8)
+        reading(made, about, entry, 33)
 
 
 def wrong_fillers(made):
     """At every place that a filler can have in a record; 254, and what is a direction elsewhere."""
-    for length, wrong in ((1, (254,)), (17, (0,)), (30, (1, 200)), (15, (0, 7, 8, 254)), (31, (0, 254))):
+    for length, wrong in ((1, (254,)), (33, (0,)), (62, (1, 200)), (31, (0, 7, 8, 254)), (63, (0, 254))):
         for place, byte in itertools.product(range(HEAD + length, len(found_entry(length))), wrong):
             reading(made, "byte %d is %d" % (place, byte), spoiled(found_entry(length), place, byte), length)
 
 
 def cut_files(made):
     """A file of three entries, cut at every byte and read through: an entry after the other, each from all the rests that begin with it."""
-    entries = [found_entry(17), entry_of(QUESTION, record(3), b""), entry_of(b"\xff" * RECORD, refused(13), b"")]
+    entries = [found_entry(33), entry_of(QUESTION, STOPPED, b""), entry_of(b"\xff" * RECORD, refused(13), b"")]
     file, at = b"".join(entries), 0
     for entry in entries:
         for end in range(len(file), at - 1, -1):
-            reading(made, "a file cut at %d, from %d" % (end, at), file[at:end], 17)
+            reading(made, "a file cut at %d, from %d" % (end, at), file[at:end], 33)
         at += len(entry)
 
 
 # ---- several faults at once --------------------------------------------------------------------------------------------
 
 # In the order of R-1: what it is, the refusal, and what it changes in an entry that is good.
-READ_ENTRY = {"answer": found(17), "route": steps(17), "filler": b"\xff" * 15, "end": None, "room": 17}
-READER_FAULTS = [
-    ("ends inside the question", 61, {"end": 9}),
-    ("ends inside the answer", 61, {"end": 31}),
-    ("no such kind", 62, {"answer": spoiled(found(17), 0, 5)}),
-    ("ends inside the route", 61, {"end": HEAD + 20}),
-    ("a direction above seven", 63, {"route": spoiled(steps(17), 16, 8)}),
-    ("a wrong filler", 63, {"filler": b"\xff" + b"\x07" * 14}),
-    ("a room too short", 64, {"room": 16}),
+GOOD = found(33)
+READ_ENTRY = {"answer": GOOD, "route": steps(33), "filler": b"\xff" * 31, "end": None, "room": 33}
+IN_THE_HEAD = [
+    ("ends inside the question", 61, {"end": 17}),
+    ("ends inside the answer", 61, {"end": HEAD - 1}),
 ]
-WRITTEN_ENTRY = {"answer": found(17), "route": steps(17), "more": b"", "spare": 0}
-WRITER_FAULTS = [
-    ("MARK as the cost", 62, {"answer": record(1, number=MARK, length=17)}),
-    ("a direction above seven", 63, {"route": spoiled(steps(17), 0, 8)}),
+AFTER_THE_HEAD = [
+    ("ends inside the route", 61, {"end": HEAD + 40}),
+    ("a direction above seven", 63, {"route": spoiled(steps(33), 32, 8)}),
+    ("a wrong filler", 63, {"filler": b"\xff" + b"\x07" * 30}),
+    ("a room too short", 64, {"room": 32}),
+]
+WRITTEN_ENTRY = {"answer": GOOD, "route": steps(33), "more": b"", "spare": 0}
+AFTER_THE_ANSWER = [
+    ("a direction above seven", 63, {"route": spoiled(steps(33), 0, 8)}),
     ("a direction too many", 63, {"more": b"\x01"}),
     ("a room too short", 64, {"spare": -1}),
+]
+# Each alone is 62. Of the last eight bytes each is so once.
+WRONG_ANSWERS = [
+    ("no such kind", spoiled(GOOD, 0, 5)),
+    ("MARK as the cost", record(1, number=MARK, length=33, p=8)),
+    *(("byte %d of the answer" % place, spoiled(GOOD, place, 1 << place % 8)) for place in LAST_EIGHT),
+]
+# The same for answers that have no route, for which any direction is 63.
+WITHOUT_A_ROUTE = [
+    ("P of refused", record(0, 7, 0, 0, p=1)), ("Q of refused", record(0, 7, 0, 0, q=1)),
+    ("P of none", record(2, number=MARK, p=MARK)), ("Q of none", record(2, number=MARK, q=1)),
+    ("P of stopped", record(3, p=8)), ("Q of stopped", record(3, q=MARK)),
+    *(("the last byte of an answer", spoiled(answer, RECORD - 1, 1)) for answer in (refused(7), NONE, STOPPED)),
 ]
 
 
@@ -330,11 +360,26 @@ def joint(good, faults):
 
 
 def joint_refusals(made):
-    for name, number, entry in joint(READ_ENTRY, READER_FAULTS):
-        file = QUESTION + entry["answer"] + entry["route"] + entry["filler"]
-        assert reading(made, name, file[: entry["end"]], entry["room"]) == [0, number], name
-    for name, number, entry in joint(WRITTEN_ENTRY, WRITER_FAULTS):
-        assert writing(made, name, QUESTION, entry["answer"], entry["route"] + entry["more"], entry["spare"]) == [0, number], name
+    tried = set()
+    for about, answer in WRONG_ANSWERS:
+        wrong = (about, 62, {"answer": answer})
+        for name, number, entry in joint(READ_ENTRY, [*IN_THE_HEAD, wrong, *AFTER_THE_HEAD]):
+            file = QUESTION + entry["answer"] + entry["route"] + entry["filler"]
+            if (reading, name) not in tried:
+                assert reading(made, name, file[: entry["end"]], entry["room"]) == [0, number], name
+            tried.add((reading, name))
+        for name, number, entry in joint(WRITTEN_ENTRY, [wrong, *AFTER_THE_ANSWER]):
+            if (writing, name) not in tried:
+                assert writing(made, name, QUESTION, entry["answer"], entry["route"] + entry["more"], entry["spare"]) == [0, number], name
+            tried.add((writing, name))
+
+
+def joint_refusals_without_a_route(made):
+    for about, answer in WITHOUT_A_ROUTE:
+        for directions, spare in itertools.product((b"", b"\x01", b"\x08"), (0, -1, -HEAD)):
+            assert writing(made, about, QUESTION, answer, directions, spare) == [0, 62], about
+        for rest in (QUESTION + answer, QUESTION + answer + b"\x08", QUESTION + answer[:-1]):
+            assert reading(made, about, rest, 0) == [0, 61 if len(rest) < HEAD else 62], about
 
 
 # ---- whole files -------------------------------------------------------------------------------------------------------
@@ -343,9 +388,10 @@ def joint_refusals(made):
 def any_entry(generator):
     question = bytes(generator.randrange(256) for _ in range(RECORD))
     settled, number = generator.randrange(MARK + 1), generator.choice([0, 560, generator.randrange(MARK), MARK - 1])
-    length = generator.choice([0, 1, 3, 14, 15, 16, 17, 20])
+    length = generator.choice([0, 1, 3, 30, 31, 32, 33, 40])
+    p, q = (generator.choice([0, 8, generator.randrange(MARK), MARK]) for _ in range(2))
     answer = generator.choice([
-        refused(generator.randint(1, 15)), record(1, 0, settled, number, length), record(1, 0, settled, number, length),
+        refused(generator.randint(1, 15)), record(1, 0, settled, number, length, p, q), record(1, 0, settled, number, length, p, q),
         record(2, 0, settled, MARK), record(3, 0, settled, number),
     ])
     return entry_of(question, answer, bytes(generator.randrange(8) for _ in range(length_of(answer))))
@@ -366,16 +412,26 @@ def whole_files(made):
     for turn in range(27):
         file = b"".join(any_entry(generator) for _ in range(generator.randint(1, 3)))
         if turn % 3:
-            reading_through(made, "file %d, torn" % turn, torn(generator, file), generator.choice([20, 20, 15]))
+            reading_through(made, "file %d, torn" % turn, torn(generator, file), generator.choice([40, 40, 31]))
         else:
-            reading_through(made, "file %d" % turn, file, 20)
-    reading_through(made, "an empty file", b"", 20)
+            reading_through(made, "file %d" % turn, file, 40)
+    reading_through(made, "an empty file", b"", 40)
+
+
+def old_files(made):
+    """"16-byte files are no longer read": question and answer of an entry as it was before R-6, then its route and the next question, are taken for a question and
+    an answer."""
+    question, answer, route = QUESTION[:OLD_RECORD], EXAMPLE_ANSWER[:OLD_RECORD], bytes([4, 2, 2, 0]) + b"\xff" * 12
+    stopped, none = (question + each[:OLD_RECORD] for each in (STOPPED, NONE))
+    entry = question + answer + route
+    for file, number in ((entry, 61), (stopped, 61), (entry + entry, 62), (entry + none, 62), (stopped + none, 62), (none + entry, 62)):
+        assert reading(made, "an old file", file, 40) == [0, number], file
 
 
 def add_calls(made):
     example_of_01(made)
     lengths(made)
-    greatest_length(made)
+    great_lengths(made)
     whole_rooms(made)
     each_answer(made)
     any_if_not_found(made)
@@ -384,4 +440,6 @@ def add_calls(made):
     wrong_fillers(made)
     cut_files(made)
     joint_refusals(made)
+    joint_refusals_without_a_route(made)
     whole_files(made)
+    old_files(made)

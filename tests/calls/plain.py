@@ -1,5 +1,6 @@
-"""A handful of calls, one of each form, with replies written out from the text of 01, R-2, R-3 and R-4 as plainly as can be: least costs by relaxing every step
-until nothing changes, the claims by their rules. Here it is that a call's parts are read in their order and that a reply has all of its own.
+"""A handful of calls, one of each form, with replies written out from the text of 01, R-2, R-3, R-4 and R-6 as plainly as can be: least costs by relaxing every
+step until nothing changes, P and Q by walking the route, the claims by their rules. Here it is that a call's parts are read in their order and that a reply has
+all of its own.
 """
 import wire
 
@@ -59,6 +60,26 @@ def first_route(floor, costs, start, goal):
     return route
 
 
+def two_sums(floor, start, route):
+    """P and Q: the weights of both cells of each step, over the straight steps and over the diagonal ones."""
+    cell, p, q = start, 0, 0
+    for direction in route:
+        to, _ = floor.step(cell, direction)
+        if direction % 2 == 0:
+            p += floor.cells[cell] + floor.cells[to]
+        else:
+            q += floor.cells[cell] + floor.cells[to]
+        cell = to
+    return p, q
+
+
+def found(floor, start, settled, cost, route):
+    """The numbers of a found answer."""
+    p, q = two_sums(floor, start, route)
+    assert cost == 70 * p + 99 * q
+    return [1, 0, 0, settled, cost, len(route), p, q]
+
+
 def shape(floor):
     return floor.width, floor.height, floor.ways
 
@@ -73,7 +94,7 @@ def search(made, floor, start, goal, limit, more):
         steps = []
         if goal in cells and cells.index(goal) < limit:
             steps = first_route(floor, least, start, goal)
-            numbers = [1, 0, 0, cells.index(goal) + 1, least[goal], len(steps)]
+            numbers = found(floor, start, cells.index(goal) + 1, least[goal], steps)
         elif goal not in cells and len(cells) <= limit:
             numbers = [2, 0, 0, len(cells), MARK, 0]
         else:
@@ -103,7 +124,7 @@ def astar(made, floor, start, goal, more):
         costs[:] = [least[cell] if cell in settled else MARK for cell in range(size)] + wire.OLD_COST * more
         work[:] = [0] * (2 * size) + wire.OLD_WORK * more
         route[:] = steps + wire.OLD_BYTE * (size + more - len(steps))
-        return [1, 0, 0, len(settled), least[goal], len(steps)] if goal in least else [2, 0, 0, len(settled), MARK, 0]
+        return found(floor, start, len(settled), least[goal], steps) if goal in least else [2, 0, 0, len(settled), MARK, 0]
 
     rooms = {"costs": (size + more, wire.OLD_COST), "work": (2 * size + more, wire.OLD_WORK), "route": (size + more, wire.OLD_BYTE)}
     made.call(wire.ASTAR, "plain", answer, shape(floor), start, goal, map=(size, floor.cells), **rooms)
@@ -182,7 +203,7 @@ def writing(made, floor, more):
 
 
 def add_calls(made):
-    a, d, l = Floor(".@./...", 8), Floor(".../.../...", 4), Floor(".@/@.", 8)
+    a, d, l, both = Floor(".@./...", 8), Floor(".../.../...", 4), Floor(".@/@.", 8), Floor(".29/934", 8)
     wide = Floor("/".join(["." * 256] * 3), 8)
     wrong = Floor(".@./...", 8)
     wrong.cells = bytes([1, 0, 1, 10, 1, 11])
@@ -193,6 +214,7 @@ def add_calls(made):
     search(made, l, 0, 3, 4, 0)
     search(made, wide, 300, 5, MARK, 3)
     search(made, a, 0, 3, 1, 1)
+    search(made, both, 0, 5, 6, 0)
     refused_search(made, wrong, 9, (2, 3, 4), 3, 3)
     refused_search(made, a, 0, (6, 12, 6), 15, 0)
     refused_search(made, a, 0, (6, 12, 5), 11, 0)
@@ -210,3 +232,4 @@ def add_calls(made):
     astar(made, a, 0, 2, 0)
     astar(made, d, 0, 8, 1)
     astar(made, l, 0, 3, 2)
+    astar(made, both, 5, 0, 1)

@@ -1,20 +1,26 @@
 """Maps and question records for the desk, and what is due.
 
-How the expectation is produced: from the text of 01, "The program", with the references of the map text and of the searches.
-The answers to cases a to l are also held to the table of 01, to R-2 for h and to R-3's costs. All cases that are not listed one by one come
-from a generator with a fixed seed.
+How the expectation is produced: from the text of 01, "The program", with R-6's records, and with the references of the map text and of the searches.
+The answers to cases a to l are also held to the table of 01, to R-2 for h and to R-3's costs, with P and Q worked out by hand. All cases that are not
+listed one by one come from a generator with a fixed seed.
 """
 import random
 import struct
 
 import maptexts
 import searches
+import sums
 import wire
 
 MARK = searches.MARK
-RECORD = 16
+RECORD = 32
+OLD_RECORD = 16  # before R-6
+QUESTION_FORM = struct.Struct("<IIIB19s")  # start, goal, limit, ways, zeros
+ANSWER_FORM = struct.Struct("<BBxxIIIII8x")  # kind, refusal, settled, number returned, route length, P, Q
+assert QUESTION_FORM.size == ANSWER_FORM.size == RECORD
+ZEROS = bytes(19)
 GREATEST_TEXT, GREATEST_SIDE, ROOM = 4195, 64, 4096
-PIECES = (16, 1, 3, 7, 17, 1000)
+PIECES = (RECORD, 1, 3, RECORD - 1, OLD_RECORD, RECORD + 1, 1000)
 
 
 # ---- what is due -----------------------------------------------------------------------------------------------------
@@ -37,20 +43,31 @@ def used(text, room):
     return [0, *refused] if refused else maptexts.read_into(text, room)
 
 
-def question(start, goal, limit, ways, zeros=b"\0\0\0"):
-    return struct.pack("<IIIB", start, goal, limit, ways) + zeros
+def question(start, goal, limit, ways, zeros=ZEROS):
+    assert len(zeros) == len(ZEROS)
+    return QUESTION_FORM.pack(start, goal, limit, ways, zeros)
+
+
+def not_zero(place, byte=1):
+    """What should be a question's zeros, with another byte at one place."""
+    return ZEROS[:place] + bytes([byte]) + ZEROS[place + 1 :]
+
+
+def old_question(start, goal, limit, ways):
+    """A question as it was before R-6, with three zeros."""
+    return question(start, goal, limit, ways)[:OLD_RECORD]
 
 
 def answer(floor, record, costs, work, route):
     """The answer record to a question record; alters the rooms as the search must."""
     width, height, cells = floor
-    start, goal, limit, ways = struct.unpack("<IIIB", record[:13])
-    if record[13:] != b"\0\0\0":
-        return struct.pack("<BBxxIII", 0, 13, 0, 0, 0)
+    start, goal, limit, ways, zeros = QUESTION_FORM.unpack(record)
+    if zeros != ZEROS:
+        return ANSWER_FORM.pack(0, 13, 0, 0, 0, 0, 0)
     lengths = {"costs": len(costs), "work": len(work), "route": len(route)}
     case = searches.case_of(width, height, ways, cells, start, goal, limit, **lengths)
-    kind, refusal, _, settled, number, length = searches.answer(case, costs, work, route)
-    return struct.pack("<BBxxIII", kind, refusal, settled, number, length)
+    kind, refusal, _, *numbers = searches.answer(case, costs, work, route)
+    return ANSWER_FORM.pack(kind, refusal, *numbers)
 
 
 def answers(floor, records, costs, work, route):
@@ -61,21 +78,25 @@ def answers(floor, records, costs, work, route):
 
 # ---- cases a to l ----------------------------------------------------------------------------------------------------
 
-# kind, refusal, settled, number, length
+# kind, refusal, settled, number, length, P, Q
 ANSWERS_OF_01 = [
-    (1, 0, 5, 560, 4),
-    (3, 0, 4, 560, 0),
-    (1, 0, 9, 396, 2),
-    (1, 0, 9, 560, 4),
-    (1, 0, 4, 840, 2),
-    (1, 0, 5, 396, 2),
-    (2, 0, 1, MARK, 0),
-    (0, 15, 0, 0, 0),
-    (1, 0, 1, 0, 0),
-    (1, 0, 2, 700, 1),
-    (1, 0, 2, 700, 1),
-    (2, 0, 1, MARK, 0),
+    (1, 0, 5, 560, 4, 8, 0),
+    (3, 0, 4, 560, 0, 0, 0),
+    (1, 0, 9, 396, 2, 0, 4),
+    (1, 0, 9, 560, 4, 8, 0),
+    (1, 0, 4, 840, 2, 12, 0),
+    (1, 0, 5, 396, 2, 0, 4),
+    (2, 0, 1, MARK, 0, 0, 0),
+    (0, 15, 0, 0, 0, 0, 0),
+    (1, 0, 1, 0, 0, 0, 0),
+    (1, 0, 2, 700, 1, 10, 0),
+    (1, 0, 2, 700, 1, 10, 0),
+    (2, 0, 1, MARK, 0, 0, 0),
 ]
+
+# 01's example, the question and the answer of case a, at R-3's cost and in R-6's form
+EXAMPLE_QUESTION = bytes.fromhex("00000000 02000000 05000000 08" + "00" * 19)
+EXAMPLE_ANSWER = bytes.fromhex("01000000 05000000 30020000 04000000 08000000 00000000" + "00" * 8)
 
 
 def fresh_answers(text, records):
@@ -86,14 +107,13 @@ def fresh_answers(text, records):
 def cases_of_01():
     """The example record of 01 on case a's map, then each case with its record."""
     small = maptexts.text_of([".@.", "..."])
-    asked, answered = bytes.fromhex("00000000020000000500000008000000"), "01000000050000003002000004000000"
-    assert fresh_answers(small, asked).hex() == answered
-    yield small, asked, 16
+    assert fresh_answers(small, EXAMPLE_QUESTION) == EXAMPLE_ANSWER
+    yield small, EXAMPLE_QUESTION, RECORD
     for case, numbers in zip(searches.cases_of_01(), ANSWERS_OF_01, strict=True):
         text = maptexts.written(case["width"], case["height"], case["cells"])
         record = question(case["start"], case["goal"], case["limit"], case["ways"])
-        assert fresh_answers(text, record) == struct.pack("<BBxxIII", *numbers)
-        yield text, record, 16
+        assert fresh_answers(text, record) == ANSWER_FORM.pack(*numbers)
+        yield text, record, RECORD
 
 
 # ---- maps that cannot be used, and those that just can -----------------------------------------------------------------
@@ -138,16 +158,17 @@ def maps():
     """Each with two questions, of which a refused map answers none."""
     asked = question(0, 0, 1, 8) + question(0, 1, MARK, 4)
     for text in [*texts_of_size(), *spoiled_texts()]:
-        yield text, asked, 16
+        yield text, asked, RECORD
 
 
 # ---- questions that are refused -----------------------------------------------------------------------------------------
 
 
 def refused_questions():
-    """On case a's map: each refusal alone, each pair of them, and all from one on; the lowest number wins, but 13 goes before all."""
-    good = {"start": 0, "goal": 2, "limit": 5, "ways": 8, "zeros": b"\0\0\0"}
-    spoil = {4: {"ways": 5}, 5: {"start": 6}, 6: {"goal": 77}, 7: {"start": 1}, 8: {"goal": 1}, 13: {"zeros": b"\0\1\0"}, 15: {"limit": 0}}
+    """On case a's map: each refusal alone, each pair of them, and all from one on; the lowest number wins, but 13 goes before all. Each of the bytes that 13
+    reads does so alone, beside each other refusal too."""
+    good = {"start": 0, "goal": 2, "limit": 5, "ways": 8, "zeros": ZEROS}
+    spoil = {4: {"ways": 5}, 5: {"start": 6}, 6: {"goal": 77}, 7: {"start": 1}, 8: {"goal": 1}, 13: {"zeros": not_zero(9)}, 15: {"limit": 0}}
     for first in spoil:
         yield {**good, **spoil[first]}
         yield from ({**good, **spoil[second], **spoil[first]} for second in spoil if second > first)
@@ -158,14 +179,27 @@ def refused_questions():
     yield from ({**good, "ways": ways} for ways in (0, 1, 2, 3, 4, 6, 7, 8, 9, 12, 16, 72, 255))
     yield from ({**good, end: cell} for end in ("start", "goal") for cell in (0, 1, 5, 6, 7, 255, 256, 258, 65536, 16777216, MARK))
     yield from ({**good, "limit": limit} for limit in (1, *searches.LOW_BYTE_0))
-    yield from ({**good, "zeros": bytes(zeros)} for zeros in ([1, 0, 0], [0, 0, 1], [0, 0, 128], [128, 0, 0], [255, 255, 255], [8, 0, 0]))
+    yield {**good, "zeros": b"\xff" * len(ZEROS)}
+    for place in range(len(ZEROS)):
+        yield from ({**good, "zeros": not_zero(place, byte)} for byte in (1, 128, 255))
+        yield from ({**good, **others, "zeros": not_zero(place, 1 << place % 8)} for number, others in spoil.items() if number != 13)
 
 
 def questions_refused():
     asked = [question(**each) for each in refused_questions()]
-    yield maptexts.text_of([".@.", "..."]), b"".join(asked), 16
+    yield maptexts.text_of([".@.", "..."]), b"".join(asked), RECORD
     # an answer that was refused leaves the next alone
-    yield maptexts.text_of([".@.", "..."]), b"".join(each + question(0, 2, 5, 8) for each in asked), 7
+    yield maptexts.text_of([".@.", "..."]), b"".join(each + question(0, 2, 5, 8) for each in asked), RECORD + 1
+
+
+def old_questions():
+    """"16-byte files are no longer read": two questions of such a file are one record, which is refused as 13 since its zeros have the second one in them, and
+    one more is a broken record."""
+    text = maptexts.text_of([".@.", "..."])
+    asked = [old_question(0, 2, 5, 8), old_question(0, 2, 4, 8), old_question(0, 0, 1, 4), old_question(3, 5, MARK, 4)]
+    assert fresh_answers(text, b"".join(asked)) == ANSWER_FORM.pack(0, 13, 0, 0, 0, 0, 0) * 2
+    for count in range(1, len(asked) + 1):
+        yield from ((text, b"".join(asked[:count]), size) for size in (OLD_RECORD, 1000))
 
 
 # ---- pieces and ends ------------------------------------------------------------------------------------------------------
@@ -174,12 +208,13 @@ def questions_refused():
 def in_pieces():
     """The same questions in pieces of every size, whole and with a broken last record; files that hold no whole record."""
     text = maptexts.text_of([".@.", "..."])
-    asked = [question(0, 2, 5, 8), question(0, 2, 4, 8), question(1, 2, 5, 8), question(0, 2, 5, 8, b"\0\0\1"), question(0, 2, 0, 8), question(3, 5, MARK, 4)]
+    last_of_13 = question(0, 2, 5, 8, not_zero(len(ZEROS) - 1))
+    asked = [question(0, 2, 5, 8), question(0, 2, 4, 8), question(1, 2, 5, 8), last_of_13, question(0, 2, 0, 8), question(3, 5, MARK, 4)]
     whole = b"".join(asked)
     for size in PIECES:
-        for broken in (0, 1, 8, 15):
-            yield text, whole + question(0x01020304, 0x05060708, 0x090A0B0C, 13, b"\16\17\20")[:broken], size
-        for short in (0, 1, 15, 16, 17):
+        for broken in (0, 1, OLD_RECORD, RECORD - 1):
+            yield text, whole + bytes(range(1, RECORD))[:broken], size
+        for short in (0, 1, OLD_RECORD, RECORD - 1, RECORD, RECORD + 1):
             yield text, whole[:short], size
     # pieces that hold many records and end inside one, and one that is far longer than what is asked
     yield text, (whole * 60)[: 300 * RECORD - 1], 1000
@@ -230,7 +265,7 @@ def asked_of(generator, width, height, cells, starts, goals):
             yield from (question(start, goal, limit, ways) for limit in limits_for(width, height, ways, cells, start, goal))
         yield question(start, generator.randrange(size + 2), generator.randint(0, size), 8)
         yield question(generator.randrange(size + 2), start, generator.randint(0, size), generator.choice([4, 8, 8, generator.randrange(256)]))
-        zeros = bytes(generator.choice([0, 0, generator.randrange(256)]) for _ in range(3))
+        zeros = not_zero(generator.randrange(len(ZEROS)), generator.choice([0, 0, generator.randrange(256)]))
         yield question(start, start, generator.randint(0, 2), 8, zeros)
 
 
@@ -264,19 +299,26 @@ def asked_floors():
     generator = random.Random(16)
     for turn, (width, height, cells, starts, goals) in enumerate(floors(generator)):
         asked = b"".join(asked_of(generator, width, height, cells, starts, goals))
-        broken = bytes(generator.randrange(256) for _ in range(generator.choice([0, 0, 1, 15])))
+        broken = bytes(generator.randrange(256) for _ in range(generator.choice([0, 0, 1, RECORD - 1])))
         yield pictured(generator, width, height, cells), asked + broken, PIECES[turn % len(PIECES)]
+
+
+def ties():
+    """P and Q of the first route, where another one with the same cost has other sums."""
+    for case, _ in sums.ties():
+        text = maptexts.written(case["width"], case["height"], case["cells"])
+        yield text, question(case["start"], case["goal"], MARK, case["ways"]), RECORD
 
 
 # ---- all of it ----------------------------------------------------------------------------------------------------------------
 
-# On a larger floor only the arrivals that complete a record are made into calls: the others would be most of all that is stored.
-SMALL_FLOOR = 6
+# Of more records only the arrivals that complete one are made into calls: the others would be most of all that is stored.
+FEW_RECORDS = 8
 
 
-def arrivals(records, piece, every):
+def arrivals(records, piece):
     """What the program's buffer holds at each arrival: the bytes that are not answered yet, and a piece more."""
-    tail = b""
+    every, tail = len(records) <= FEW_RECORDS * RECORD, b""
     for at in range(0, len(records), piece):
         arrived = tail + records[at : at + piece]
         tail = arrived[len(arrived) - len(arrived) % RECORD :]
@@ -314,7 +356,7 @@ def add_case(made, turn, text, records, piece):
     floor = width, height, cells = maptexts.read(text, ROOM)
     size = len(cells)
     rooms = {"costs": (size + 3, wire.OLD_COST), "work": (2 * size + 3, wire.OLD_WORK), "route": (size + 3, wire.OLD_BYTE)}
-    for arrived in arrivals(records, piece, size <= SMALL_FLOOR):
+    for arrived in arrivals(records, piece):
         asked = "%s, pieces of %d, arrived %s" % (about, piece, arrived[:64].hex(" "))
         due = lambda costs, work, route, text, **_: answer_in_place(floor, costs, work, route, text)
         made.call(wire.ANSWER_RECORDS, asked, due, (width, height, turn), map=(size, ()), text=(len(arrived), arrived), **rooms)
@@ -335,7 +377,7 @@ def add_refused(made):
     for number, width, height, cells, lengths in refused_floors():
         rooms = dict(zip(("costs", "work", "route"), zip(lengths, (wire.OLD_COST, wire.OLD_WORK, wire.OLD_BYTE))))
         due = lambda costs, work, route, text, **_: answer_in_place((width, height, cells), costs, work, route, text)
-        for records, numbers in ((limit_0 + question(0, 2, 0, 8, b"\0\0\1"), [number or 15, 13]), (limit_5 + limit_0, [number, number or 15])):
+        for records, numbers in ((limit_0 + question(0, 2, 0, 8, not_zero(len(ZEROS) - 1)), [number or 15, 13]), (limit_5 + limit_0, [number, number or 15])):
             about = "records that are refused as %s, a floor of %d by %d, rooms of %s" % (numbers, width, height, lengths)
             made.call(wire.ANSWER_RECORDS, about, due, (width, height, 8), map=(len(cells), cells), text=(len(records), records), **rooms)
             assert made.rooms["text"][1 : len(records) : RECORD] == numbers, about
@@ -353,7 +395,7 @@ def add_turns(made):
     rooms = {"costs": (9, wire.OLD_COST), "work": (15, wire.OLD_WORK), "route": (9, wire.OLD_BYTE)}
     for turn in range(TURNS):
         asked = [question(generator.randrange(7), generator.randrange(7), generator.randrange(8), generator.choice([4, 8, 8, 5])) for _ in range(3)]
-        length = generator.choice([0, 1, 15, 16, 17, 31, 32, 40, 48])
+        length = generator.choice([0, 1, 16, 31, 32, 33, 63, 64, 65, 80, 96])
         end = generator.choice([0, length // 2, max(length - 3, 0), length, length + 1, MARK])
         buffer = b"".join(asked)[:length]
         about = "turn %d: %d bytes of %d, %s" % (turn, end, length, buffer.hex(" "))
@@ -366,7 +408,7 @@ def add_turns(made):
 
 
 def add_calls(made):
-    cases = [*cases_of_01(), *maps(), *questions_refused(), *in_pieces(), *asked_floors()]
+    cases = [*cases_of_01(), *maps(), *questions_refused(), *old_questions(), *in_pieces(), *asked_floors(), *ties()]
     for turn, case in enumerate(cases):
         add_case(made, turn, *case)
     add_refused(made)

@@ -1,10 +1,11 @@
 """Questions to the search, and what it must answer and leave.
 
-How the expectation is produced: from the text of 01, of R-2 about limit 0 and of R-3 about what a step costs, alone, as plainly
+How the expectation is produced: from the text of 01, of R-2 about limit 0, of R-3 about what a step costs and of R-6 about P and Q, alone, as plainly
 as it can be written, and with nothing of the search's own code or method. The least costs come from relaxing every step of the map again and again, in
 sweeps in both directions, until a sweep changes nothing. L is the reachable cells, sorted by cost and cell number; answer,
 settled count and rooms are read off L. The route is walked back from the goal: of the steps that give a cell its cost the one
-with the lowest direction is the last. All cases that are not listed one by one come from a generator with a fixed seed.
+with the lowest direction is the last. P and Q are summed along the route, from the start on, and held against its cost.
+All cases that are not listed one by one come from a generator with a fixed seed.
 """
 import random
 
@@ -87,6 +88,22 @@ def first_route(table, costs, start, goal):
     return backwards[::-1]
 
 
+def two_sums(case, steps):
+    """P and Q of a route from the start: the weights of both cells of each step, summed over the straight and over the diagonal ones."""
+    cells, cell = case["cells"], case["start"]
+    straight = diagonal = 0
+    for direction in steps:
+        dx, dy, _ = DIRECTIONS[direction]
+        entered = cell + dy * case["width"] + dx
+        pair = cells[cell] + cells[entered]
+        if dx != 0 and dy != 0:
+            diagonal += pair
+        else:
+            straight += pair
+        cell = entered
+    return straight, diagonal
+
+
 # ---- what the search must answer and leave ----------------------------------------------------------------------------
 
 
@@ -133,11 +150,18 @@ def known_costs(case):
     return KNOWN[name]
 
 
+def found(case, settled, cost, steps):
+    """The numbers of a found answer, of either engine."""
+    p, q = two_sums(case, steps)
+    assert cost == 70 * p + 99 * q, case
+    return [1, 0, 0, settled, cost, len(steps), p, q]
+
+
 def answer(case, costs, work, route):
-    """Kind, refusal, place, settled, number returned and route length; alters the rooms as the search must."""
+    """Kind, refusal, place, settled, number returned, route length, P and Q; alters the rooms as the search must."""
     refused = refusal(case)
     if refused is not None:
-        return [0, *refused, 0, 0, 0]
+        return [0, *refused, 0, 0, 0, 0, 0]
     size = len(case["cells"])
     table, least = known_costs(case)
     reached = sorted((least[cell], cell) for cell in range(size) if least[cell] is not None)
@@ -146,11 +170,11 @@ def answer(case, costs, work, route):
     steps = []
     if places and places[0] < limit:
         steps = first_route(table, least, case["start"], goal)
-        numbers = [1, 0, 0, places[0] + 1, least[goal], len(steps)]
+        numbers = found(case, places[0] + 1, least[goal], steps)
     elif not places and len(reached) <= limit:
-        numbers = [2, 0, 0, len(reached), MARK, 0]
+        numbers = [2, 0, 0, len(reached), MARK, 0, 0, 0]
     else:
-        numbers = [3, 0, 0, limit, reached[limit][0], 0]
+        numbers = [3, 0, 0, limit, reached[limit][0], 0, 0, 0]
     costs[:size] = [MARK] * size
     for cost, cell in reached[: numbers[3]]:
         costs[cell] = cost
@@ -255,7 +279,7 @@ def least_limits():
     cases += [drawn(".@./...", 8, 0, 2, limit) for limit in LOW_BYTE_0]
     for picture, start, goal, (kind, *three) in LIMIT_1:
         for ways in (4, 8):
-            for limit, due in ((0, [0, 15, 0, 0, 0, 0]), (1, [kind, 0, 0, *three])):
+            for limit, due in ((0, [0, 15, 0, 0, 0, 0, 0, 0]), (1, [kind, 0, 0, *three, 0, 0])):
                 case = drawn(picture, ways, start, goal, limit)
                 assert answer(case, *([0] * case[name] for name in ("costs", "work", "route"))) == due, case
                 cases.append(case)
@@ -460,20 +484,14 @@ def all_cases():
     return cases
 
 
-def given(cells):
-    """A map as a call gives it: of one that is all alike a single cell."""
-    return cells[:1] if len(set(cells)) == 1 else cells
-
-
 def ask(made, what, turn, case, answer):
     """A question from C in the case's rooms, of which every fifth call has other contents before; `answer` gives what is due."""
     about = ", ".join("%s %d" % (name, value) for name, value in case.items() if name != "cells") + ", cells %r" % case["cells"][:100]
     old = (wire.OLD_COST, wire.OLD_WORK, wire.OLD_BYTE) if turn % 5 else ([turn, MARK, 0], [MARK, turn], [turn % 256, 9, 255])
     rooms = {name: (case[name], before) for name, before in zip(("costs", "work", "route"), old)}
     asked = {"floor": (case["width"], case["height"], case["ways"]), "start": case["start"], "goal": case["goal"], "limit": case["limit"], **rooms}
-    size = len(case["cells"])
     due = lambda costs, work, route, **_: answer(case, costs, work, route)
-    made.call(what, about, due, map=(size, given(case["cells"])), **asked)
+    made.call(what, about, due, map=(len(case["cells"]), made.given("map", case["cells"])), **asked)
 
 
 def add_calls(made):

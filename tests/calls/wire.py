@@ -31,6 +31,9 @@ NUMBERS = ("costs", "work")
 # What a room holds before a call, unless a case says otherwise.
 OLD_COST, OLD_WORK, OLD_BYTE = [123456789], [987654321], [200]
 
+# How many numbers a reply begins with; those that an answer does not have are 0.
+FRONT = 8
+
 # A longer reply is asked for as a digest: the rooms of the greatest floor are near a megabyte.
 LONGEST_WHOLE = 300
 
@@ -59,6 +62,12 @@ class Wire:
         self.made = []  # what a call is, the call, its reply
         self.outcomes = {name: Counter() for name in ENTRIES.values()}
 
+    def given(self, name, entries):
+        """What a call gives so that a room of bytes holds these: nothing where it holds them already, one where all are alike."""
+        if bytes(self.rooms[name][: len(entries)]) == entries:
+            return b""
+        return entries[:1] if len(set(entries)) == 1 else entries
+
     def call(self, what, about, answer, floor=(0, 0, 0), start=0, goal=0, limit=0, **rooms):
         """Adds a call. A room is its length and what is given; `answer` gets the rooms, alters them as the entry must, and gives the numbers that the
         reply begins with."""
@@ -74,7 +83,7 @@ class Wire:
             lent[name] = room[:length]
         assert not rooms, rooms
         numbers = answer(**lent)
-        reply = packed([*numbers, *[0] * (6 - len(numbers))])
+        reply = packed([*numbers, *[0] * (FRONT - len(numbers))])
         for name in ROOMS:
             assert len(lent[name]) == lengths[2 * ROOMS.index(name)]
             self.rooms[name][: len(lent[name])] = lent[name]
