@@ -9,8 +9,13 @@ import selectors
 import subprocess
 import sys
 
-from expected import MARK, RECORD, fresh_answers, maptexts, output, question
+from expected import MARK, RECORD, ZEROS, fresh_answers, maptexts, not_zero, old_question, output, question
 from starting import COMMAND, LONG, compare, in_folder, run
+
+import sums  # one of tests/calls, where expected.py looks
+
+TEXT = maptexts.text_of([".@.", "..."])
+LAST_OF_13 = question(0, 2, 5, 8, not_zero(len(ZEROS) - 1))
 
 
 def broken_line(records):
@@ -64,7 +69,7 @@ def asked_of(generator, width, height, count):
     for _ in range(count):
         start, goal = (generator.randrange(size + (generator.random() < 0.05)) for _ in range(2))
         limit = generator.choice([0, 1, generator.randint(0, size), size, size + 1, MARK])
-        zeros = b"\0\0\0" if generator.random() < 0.95 else bytes(generator.randrange(256) for _ in range(3))
+        zeros = ZEROS if generator.random() < 0.95 else not_zero(generator.randrange(len(ZEROS)), generator.randrange(256))
         yield question(start, goal, limit, generator.choice([4, 8, 8, generator.randrange(256)]), zeros)
 
 
@@ -72,7 +77,7 @@ def least_limits():
     """On case a's map limit 0 and limit 1 in turn, without 13 and with it, between ends that are the same, neighbours, farther, blocked or off the map."""
     for start, goal in ((0, 0), (0, 3), (0, 2), (1, 2), (0, 1), (6, 2), (0, 6)):
         for limit in (0, 1):
-            yield from (question(start, goal, limit, 8, zeros) for zeros in (b"\0\0\0", b"\0\0\1"))
+            yield from (question(start, goal, limit, 8, zeros) for zeros in (ZEROS, not_zero(len(ZEROS) - 1)))
 
 
 def floors():
@@ -81,6 +86,8 @@ def floors():
     yield maptexts.text_of([".@", "@."]), [question(0, 3, 4, 8)]
     yield maptexts.text_of(["."]), [question(0, 0, limit, 8) for limit in (0, 1, MARK)]
     yield maptexts.text_of([".@.", "..."]), list(least_limits())
+    for case, _ in sums.ties():
+        yield maptexts.written(case["width"], case["height"], case["cells"]), [question(case["start"], case["goal"], MARK, case["ways"])]
     for width, height, count in ((1, 1, 20), (7, 5, 300), (64, 1, 100), (1, 64, 100), (64, 64, 40), (63, 64, 20)):
         picture = ["".join(generator.choice("..G123456789@TO") for _ in range(width)) for _ in range(height)]
         yield maptexts.text_of(picture), list(asked_of(generator, width, height, count))
@@ -113,7 +120,7 @@ def dribble(folder, text, records, size):
     compare(f"pieces of {size}, standard error", program.stderr.read(), broken_line(records))
 
 
-def main():
+def maps_that_cannot_be_used():
     records = question(0, 2, 5, 8) * 3
     texts = list(refused_texts())
     for text in texts:
@@ -123,6 +130,8 @@ def main():
     numbers = sorted({int(output(text, b"").split()[2]) for text in texts if output(text, b"")})
     print(f"planner: {len(texts)} texts, refused as {', '.join(map(str, numbers))}; map missing")
 
+
+def maps_that_can():
     kinds = set()
     count = 0
     for text, asked in floors():
@@ -132,14 +141,44 @@ def main():
         count += len(asked)
     print(f"planner: {count} questions, kinds and refusals {' '.join('%d/%d' % kind for kind in sorted(kinds))}")
 
-    text = maptexts.text_of([".@.", "..."])
-    asked = [question(0, 2, 5, 8), question(0, 2, 4, 8), question(1, 2, 5, 8), question(0, 2, 5, 8, b"\0\0\1"), question(0, 2, 0, 8), question(3, 5, MARK, 4)]
+
+def pieces():
+    """Pieces of several sizes; then much at once."""
+    asked = [question(0, 2, 5, 8), question(0, 2, 4, 8), question(1, 2, 5, 8), LAST_OF_13, question(0, 2, 0, 8), question(3, 5, MARK, 4)]
     records = b"".join(asked) + asked[0][:9]
-    for size in (1, 3, 7, 16, 17):
-        in_folder(text, lambda folder, size=size: dribble(folder, text, records, size))
-    many = b"".join(asked) * 5000
-    in_folder(text, lambda folder: compare("much input", run(folder, many + records, broken_line(records)), b"".join([output(text, b"".join(asked))] * 5000) + output(text, records)))
-    print(f"planner: pieces of 1, 3, 7, 16 and 17 bytes, {len(many + records) // RECORD} questions at once")
+    sizes = (1, 3, 16, RECORD - 1, RECORD, RECORD + 1)
+    for size in sizes:
+        in_folder(TEXT, lambda folder, size=size: dribble(folder, TEXT, records, size))
+    many, due = b"".join(asked) * 5000, output(TEXT, b"".join(asked)) * 5000
+    in_folder(TEXT, lambda folder: compare("much input", run(folder, many + records, broken_line(records)), due + output(TEXT, records)))
+    print(f"planner: pieces of {', '.join(map(str, sizes))} bytes, {len(many + records) // RECORD} questions at once")
+
+
+def broken_records():
+    """A last record of each length that is too short, after a whole one and alone."""
+    for length in range(1, RECORD):
+        try_text(TEXT, question(0, 2, 5, 8) + LAST_OF_13[:length])
+        try_text(TEXT, LAST_OF_13[:length])
+    print(f"planner: broken records of 1 to {RECORD - 1} bytes")
+
+
+def old_files():
+    """"16-byte files are no longer read": two of their questions are read as one, whose zeros are not all 0, and one that is left over is no whole record."""
+    refused_as_13 = bytes([0, 13]) + bytes(RECORD - 2)
+    for count in (1, 2, 3, 4):
+        records = old_question(0, 2, 5, 8) * count
+        due = refused_as_13 * (count // 2)
+        assert output(TEXT, records) == due
+        in_folder(TEXT, lambda folder: compare("an old file", run(folder, records, broken_line(records)), due))
+    print("planner: files of 16-byte questions, two of which are one that is refused as 13")
+
+
+def main():
+    maps_that_cannot_be_used()
+    maps_that_can()
+    pieces()
+    broken_records()
+    old_files()
 
 
 main()

@@ -1,7 +1,7 @@
 #!/usr/bin/env python3
 """Makes the program's test: its map (crates/planner/data/floor.map), question records (stdin) and the answers due (stdout).
 
-How the expectation is produced: by the reference of the desk (tests/calls/records.py), which follows 01, "The program", R-2 and R-3.
+How the expectation is produced: by the reference of the desk (tests/calls/records.py), which follows 01, "The program", R-2, R-3 and R-6.
 Nothing comes from the program or its libraries.
 
     expected.py FOLDER      writes FOLDER/floor.map, FOLDER/stdin and FOLDER/stdout, and prints how many questions there are
@@ -11,7 +11,7 @@ from pathlib import Path
 
 sys.path.insert(0, str(Path(__file__).resolve().parent.parent / "calls"))
 import maptexts
-from records import MARK, RECORD, fresh_answers, question, refusal_of
+from records import EXAMPLE_ANSWER, EXAMPLE_QUESTION, MARK, RECORD, ZEROS, fresh_answers, not_zero, old_question, question, refusal_of
 
 
 def output(text, records):
@@ -23,7 +23,7 @@ def output(text, records):
 
 
 def questions():
-    """For case a, `.@.` over `...`: every cell and some that are off the map, every limit that makes a difference, each refusal."""
+    """For case a, `.@.` over `...`: every cell and some that are off the map, every limit that makes a difference, each refusal, and each byte that 13 reads."""
     yield question(0, 2, 5, 8)
     for limit in (4, 5, 6, 0, 1, MARK):
         for start in (0, 1, 2, 3, 5, 6, MARK):
@@ -33,10 +33,12 @@ def questions():
     for ways in (0, 1, 5, 6, 7, 9, 12, 255):
         for limit in (5, 0):
             yield question(0, 2, limit, ways)
-    for zeros in (b"\1\0\0", b"\0\1\0", b"\0\0\1", b"\0\0\x80", b"\xff\xff\xff"):
+    for zeros in [*(not_zero(place) for place in range(len(ZEROS))), not_zero(len(ZEROS) - 1, 128), b"\xff" * len(ZEROS)]:
         yield question(0, 2, 5, 8, zeros)
         yield question(0, 2, 0, 8, zeros)
         yield question(1, 7, 0, 3, zeros)
+    # two questions as they were before R-6 are read as one, which is refused as 13
+    yield old_question(0, 2, 5, 8) + old_question(0, 2, 5, 8)
     yield question(0, 2, 5, 8)
 
 
@@ -44,10 +46,9 @@ def main():
     folder = Path(sys.argv[1])
     text = maptexts.text_of([".@.", "..."])
     asked = list(questions())
-    records = b"".join(asked) + asked[0][:15]
-    example = bytes.fromhex("00000000020000000500000008000000"), bytes.fromhex("01000000050000003002000004000000")
+    records = b"".join(asked) + asked[0][: RECORD - 1]
     due = output(text, records)
-    assert (records[:RECORD], due[:RECORD]) == example
+    assert (records[:RECORD], due[:RECORD]) == (EXAMPLE_QUESTION, EXAMPLE_ANSWER)
     (folder / "floor.map").write_bytes(text)
     (folder / "stdin").write_bytes(records)
     (folder / "stdout").write_bytes(due)
