@@ -1,7 +1,7 @@
 //! A* of 02's R-4, from its definition: no A* is run. All least costs are known first, and then each cell by itself is settled or not.
 
 use crate::floor::{Floor, MARK};
-use crate::search::{first_route, least_costs, refused_question, Answer, Rooms};
+use crate::search::{found, least_costs, refused_question, Answer, Rooms};
 
 /// "With small and large the two coordinate distances, 198 × small + 140 × (large − small); with four ways 140 × (small + large)."
 fn estimate(floor: Floor, cell: u64, goal: u64) -> u64 {
@@ -44,15 +44,9 @@ pub fn astar(floor: Floor, map: &[u8], start: u64, goal: u64, rooms: &mut Rooms)
     }
     match costs[goal as usize] {
         None => Answer::None { settled },
-        Some(cost) => {
-            let route = first_route(floor, map, &costs, start, goal);
-            rooms.route[..route.len()].copy_from_slice(&route);
-            let length = route.len() as u64;
-            Answer::Found {
-                settled,
-                cost,
-                length,
-            }
+        Some(_) => {
+            let ends = (start, goal);
+            found(floor, map, ends, &costs, settled, &mut rooms.route)
         }
     }
 }

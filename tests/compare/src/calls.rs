@@ -1,4 +1,4 @@
-//! Calls of the program `calls` (crates/calls/src/main.rt has the form), and the replies that 01 and ask for.
+//! Calls of the program `calls` (crates/calls/src/main.rt has the form), and the replies that 01, R-1 to ask for.
 
 use crate::astar::astar;
 use crate::claims::{check_route, check_table, RouteVerdict, TableVerdict};
@@ -152,13 +152,13 @@ impl Call {
     }
 
     pub fn reply_length(&self) -> usize {
-        SIX + self.before().bytes().len()
+        FRONT + self.before().bytes().len()
     }
 
     /// The numbers at the front of a whole reply, and the rooms as it has them.
     pub fn parts(&self, reply: &[u8]) -> (Vec<u32>, FiveRooms) {
         let [map, costs, work, route, _] = self.before().lengths();
-        let (six, rest) = reply.split_at(SIX);
+        let (front, rest) = reply.split_at(FRONT);
         let (map, rest) = rest.split_at(map);
         let (costs, rest) = rest.split_at(4 * costs);
         let (work, rest) = rest.split_at(4 * work);
@@ -170,13 +170,13 @@ impl Call {
             route: route.to_vec(),
             text: text.to_vec(),
         };
-        (numbers_of(six), rooms)
+        (numbers_of(front), rooms)
     }
 
     /// The reply that is due.
     pub fn expected(&self) -> Vec<u8> {
         let mut rooms = self.before();
-        let six = match self.what {
+        let front = match self.what {
             What::Search | What::Astar => self.expected_search(&mut rooms),
             What::RouteClaim => self.expected_route_verdict(),
             What::TableClaim => self.expected_table_verdict(),
@@ -185,13 +185,16 @@ impl Call {
             What::ReadEntry => self.expected_read_entry(&mut rooms),
             What::WriteEntry => self.expected_written_entry(&mut rooms),
         };
-        let mut reply = numbers(&six.map(|value| value as u32));
+        let front: Vec<u32> = front.iter().map(|value| *value as u32).collect();
+        let mut reply = numbers(&front);
+        // what an answer does not have is 0
+        reply.resize(FRONT, 0);
         reply.extend(rooms.bytes());
         reply
     }
 
     /// The answer of the search, or of A*.
-    fn expected_search(&self, lent: &mut FiveRooms) -> [u64; 6] {
+    fn expected_search(&self, lent: &mut FiveRooms) -> Vec<u64> {
         let mut rooms = Rooms {
             costs: lent.costs.clone(),
             work: lent.work.clone(),
@@ -211,67 +214,69 @@ impl Call {
                 settled,
                 cost,
                 length,
-            } => [1, 0, 0, settled, cost, length],
-            Answer::None { settled } => [2, 0, 0, settled, MARK as u64, 0],
-            Answer::Stopped { settled, floor } => [3, 0, 0, settled, floor, 0],
+                p,
+                q,
+            } => vec![1, 0, 0, settled, cost, length, p, q],
+            Answer::None { settled } => vec![2, 0, 0, settled, MARK as u64],
+            Answer::Stopped { settled, floor } => vec![3, 0, 0, settled, floor],
         }
     }
 
-    fn expected_route_verdict(&self) -> [u64; 6] {
+    fn expected_route_verdict(&self) -> Vec<u64> {
         let (start, goal, cost) = (self.start as u64, self.goal as u64, self.limit as u64);
         match check_route(self.floor(), &self.map, start, goal, cost, &self.route) {
             RouteVerdict::Fails(fault) if fault.number > 40 => {
-                [2, fault.number as u64, fault.place, 0, 0, 0]
+                vec![2, fault.number as u64, fault.place]
             }
             RouteVerdict::Fails(refused) => refused_with(refused),
-            RouteVerdict::Holds(cost) => [1, 0, 0, cost, 0, 0],
+            RouteVerdict::Holds(cost) => vec![1, 0, 0, cost],
         }
     }
 
-    fn expected_table_verdict(&self) -> [u64; 6] {
+    fn expected_table_verdict(&self) -> Vec<u64> {
         match check_table(self.floor(), &self.map, self.start as u64, &self.table) {
             TableVerdict::Refused(refused) => refused_with(refused),
-            TableVerdict::Right => [1, 0, 0, 0, 0, 0],
-            TableVerdict::Breaks(cell) => [2, 0, cell, 0, 0, 0],
+            TableVerdict::Right => vec![1],
+            TableVerdict::Breaks(cell) => vec![2, 0, cell],
         }
     }
 
-    fn expected_reading(&self, lent: &mut FiveRooms) -> [u64; 6] {
+    fn expected_reading(&self, lent: &mut FiveRooms) -> Vec<u64> {
         match read_map(&self.text, self.byte_room) {
             Err(refused) => refused_with(refused),
             Ok(map) => {
                 lent.map[..map.cells.len()].copy_from_slice(&map.cells);
-                [1, 0, 0, map.width, map.height, 8]
+                vec![1, 0, 0, map.width, map.height, 8]
             }
         }
     }
 
-    fn expected_writing(&self, lent: &mut FiveRooms) -> [u64; 6] {
+    fn expected_writing(&self, lent: &mut FiveRooms) -> Vec<u64> {
         match write_map(self.floor(), &self.map, self.byte_room) {
             Err(refused) => refused_with(refused),
             Ok(text) => {
                 lent.text[..text.len()].copy_from_slice(&text);
-                [1, 0, 0, text.len() as u64, 0, 0]
+                vec![1, 0, 0, text.len() as u64]
             }
         }
     }
 
     /// Question and answer are put into the map room, zeros if there is no entry.
-    fn expected_read_entry(&self, lent: &mut FiveRooms) -> [u64; 6] {
+    fn expected_read_entry(&self, lent: &mut FiveRooms) -> Vec<u64> {
         lent.map = vec![0; 2 * RECORD];
         match read_entry(&self.text, self.byte_room) {
             Err(refused) => refused_with(refused),
-            Ok(None) => [2, 0, 0, 0, 0, 0],
+            Ok(None) => vec![2],
             Ok(Some(entry)) => {
                 lent.map = [&entry.question[..], &entry.answer].concat();
                 lent.route[..entry.route.len()].copy_from_slice(&entry.route);
                 let taken = entry.bytes().len() as u64;
-                [1, 0, 0, entry.route.len() as u64, taken, 0]
+                vec![1, 0, 0, entry.route.len() as u64, taken]
             }
         }
     }
 
-    fn expected_written_entry(&self, lent: &mut FiveRooms) -> [u64; 6] {
+    fn expected_written_entry(&self, lent: &mut FiveRooms) -> Vec<u64> {
         let (question, answer) = self.map.split_at(RECORD);
         let entry = Entry {
             question: question.to_vec(),
@@ -282,18 +287,18 @@ impl Call {
             Err(refused) => refused_with(refused),
             Ok(bytes) => {
                 lent.text[..bytes.len()].copy_from_slice(&bytes);
-                [1, 0, 0, bytes.len() as u64, 0, 0]
+                vec![1, 0, 0, bytes.len() as u64]
             }
         }
     }
 }
 
-fn refused_with(refused: Refusal) -> [u64; 6] {
-    [0, refused.number as u64, refused.place, 0, 0, 0]
+fn refused_with(refused: Refusal) -> Vec<u64> {
+    vec![0, refused.number as u64, refused.place]
 }
 
-/// How many bytes the numbers at the front of a reply are.
-pub const SIX: usize = 24;
+/// How many bytes the eight numbers at the front of a reply are.
+const FRONT: usize = 8 * 4;
 
 /// The five rooms that a call lends.
 pub struct FiveRooms {

@@ -1,5 +1,5 @@
-//! The floors to try of 01, with the answers that 01 gives, R-2 for case h and R-3 for the costs, one of them as an entry of R-1's log, and all as
-//! questions to R-4's A*: the plain planner is held against these before it is compared with anything.
+//! The floors to try of 01, with the answers that 01 gives, R-2 for case h, R-3 for the costs and R-6's P and Q worked out by hand, one of them as an
+//! entry of R-1's log, and all as questions to R-4's A*: the plain planner is held against these before it is compared with anything.
 
 use crate::astar::astar;
 use crate::calls::{Call, What};
@@ -7,6 +7,7 @@ use crate::claims::{check_route, check_table, RouteVerdict, TableVerdict};
 use crate::floor::{Refusal, MARK};
 use crate::log::{read_entry, write_entry, Entry};
 use crate::logs::{reading, writing};
+use crate::program::output;
 use crate::search::{search, Answer, Rooms};
 
 struct Case {
@@ -20,11 +21,13 @@ struct Case {
     route: &'static [u8],
 }
 
-fn found(settled: u64, cost: u64, length: u64) -> Answer {
+fn found(settled: u64, cost: u64, length: u64, p: u64, q: u64) -> Answer {
     Answer::Found {
         settled,
         cost,
         length,
+        p,
+        q,
     }
 }
 
@@ -38,17 +41,17 @@ fn cases() -> Vec<Case> {
     let stopped = |settled, floor| Answer::Stopped { settled, floor };
     let open = ".../.../...";
     vec![
-        Case { name: 'a', map: ".@./...", ways: 8, start: 0, goal: 2, limit: 5, answer: found(5, 560, 4), route: &[4, 2, 2, 0] },
+        Case { name: 'a', map: ".@./...", ways: 8, start: 0, goal: 2, limit: 5, answer: found(5, 560, 4, 8, 0), route: &[4, 2, 2, 0] },
         Case { name: 'b', map: ".@./...", ways: 8, start: 0, goal: 2, limit: 4, answer: stopped(4, 560), route: &[] },
-        Case { name: 'c', map: open, ways: 8, start: 0, goal: 8, limit: 9, answer: found(9, 396, 2), route: &[3, 3] },
-        Case { name: 'd', map: open, ways: 4, start: 0, goal: 8, limit: 9, answer: found(9, 560, 4), route: &[4, 4, 2, 2] },
-        Case { name: 'e', map: "../.9", ways: 8, start: 0, goal: 3, limit: 4, answer: found(4, 840, 2), route: &[4, 2] },
-        Case { name: 'f', map: ".9./...", ways: 8, start: 0, goal: 2, limit: 6, answer: found(5, 396, 2), route: &[3, 1] },
+        Case { name: 'c', map: open, ways: 8, start: 0, goal: 8, limit: 9, answer: found(9, 396, 2, 0, 4), route: &[3, 3] },
+        Case { name: 'd', map: open, ways: 4, start: 0, goal: 8, limit: 9, answer: found(9, 560, 4, 8, 0), route: &[4, 4, 2, 2] },
+        Case { name: 'e', map: "../.9", ways: 8, start: 0, goal: 3, limit: 4, answer: found(4, 840, 2, 12, 0), route: &[4, 2] },
+        Case { name: 'f', map: ".9./...", ways: 8, start: 0, goal: 2, limit: 6, answer: found(5, 396, 2, 0, 4), route: &[3, 1] },
         Case { name: 'g', map: ".@.", ways: 8, start: 0, goal: 2, limit: 1, answer: none(1), route: &[] },
         Case { name: 'h', map: ".@.", ways: 8, start: 0, goal: 2, limit: 0, answer: refused(15), route: &[] },
-        Case { name: 'i', map: ".", ways: 8, start: 0, goal: 0, limit: 1, answer: found(1, 0, 0), route: &[] },
-        Case { name: 'j', map: ".9", ways: 8, start: 0, goal: 1, limit: 2, answer: found(2, 700, 1), route: &[2] },
-        Case { name: 'k', map: ".9", ways: 8, start: 1, goal: 0, limit: 2, answer: found(2, 700, 1), route: &[6] },
+        Case { name: 'i', map: ".", ways: 8, start: 0, goal: 0, limit: 1, answer: found(1, 0, 0, 0, 0), route: &[] },
+        Case { name: 'j', map: ".9", ways: 8, start: 0, goal: 1, limit: 2, answer: found(2, 700, 1, 10, 0), route: &[2] },
+        Case { name: 'k', map: ".9", ways: 8, start: 1, goal: 0, limit: 2, answer: found(2, 700, 1, 10, 0), route: &[6] },
         Case { name: 'l', map: ".@/@.", ways: 8, start: 0, goal: 3, limit: 4, answer: none(1), route: &[] },
     ]
 }
@@ -107,6 +110,7 @@ pub fn tried() -> Vec<Call> {
     calls.extend(claimed());
     calls.extend(logged());
     calls.extend(aimed());
+    calls.extend(tied());
     calls
 }
 
@@ -131,7 +135,7 @@ fn refused_or_taken() -> Vec<Call> {
     let mut ten = drawn(What::Search, "9", 8, 0, 0, 1);
     ten.map[0] = 10;
     let blocked = drawn(What::Search, "@", 8, 0, 0, 1);
-    assert_eq!(searched(&row(256)).0, found(1, 0, 0));
+    assert_eq!(searched(&row(256)).0, found(1, 0, 0, 0, 0));
     assert_eq!(searched(&row(257)).0, refused(1));
     assert_eq!(searched(&ten).0, refused(3));
     assert_eq!(searched(&blocked).0, refused(7));
@@ -157,18 +161,21 @@ fn claimed() -> Vec<Call> {
     vec![route, table]
 }
 
-/// 01's question record and answer record of case a, at R-3's cost, with the route: the last record is "filled up with 255".
+/// 01's question record and answer record of case a, at R-3's cost and in R-6's form, with the route: the last record is "filled up with 255".
+#[rustfmt::skip]
 fn logged() -> Vec<Call> {
     let entry = Entry {
-        question: vec![0, 0, 0, 0, 2, 0, 0, 0, 5, 0, 0, 0, 8, 0, 0, 0],
-        answer: vec![1, 0, 0, 0, 5, 0, 0, 0, 48, 2, 0, 0, 4, 0, 0, 0],
+        question: vec![0, 0, 0, 0, 2, 0, 0, 0, 5, 0, 0, 0, 8, 0, 0, 0, 0, 0, 0, 0, 0, 0, 0, 0, 0, 0, 0, 0, 0, 0, 0, 0],
+        answer: vec![1, 0, 0, 0, 5, 0, 0, 0, 48, 2, 0, 0, 4, 0, 0, 0, 8, 0, 0, 0, 0, 0, 0, 0, 0, 0, 0, 0, 0, 0, 0, 0],
         route: vec![4, 2, 2, 0],
     };
+    let text = b"type octile\nheight 2\nwidth 3\nmap\n.@.\n...\n";
+    assert_eq!(output(Some(text), &entry.question), entry.answer);
     let mut bytes = [&entry.question[..], &entry.answer, &entry.route].concat();
-    bytes.extend([255; 12]);
-    assert_eq!(write_entry(&entry, 48), Ok(bytes.clone()));
+    bytes.extend([255; 28]);
+    assert_eq!(write_entry(&entry, 96), Ok(bytes.clone()));
     assert_eq!(read_entry(&bytes, 4), Ok(Some(entry.clone())));
-    vec![writing(&entry, 48), reading(&bytes, 4), reading(&[], 4)]
+    vec![writing(&entry, 96), reading(&bytes, 4), reading(&[], 4)]
 }
 
 /// A question to A*: map, ways, start, goal, and what is due.
@@ -182,18 +189,18 @@ fn aimed_cases() -> Vec<Aimed> {
     let none = |settled| Answer::None { settled };
     let open = ".../.../...";
     vec![
-        (".@./...", 8, 0, 2, found(5, 560, 4), &[4, 2, 2, 0]),
-        (open, 8, 0, 8, found(3, 396, 2), &[3, 3]),
-        (open, 4, 0, 8, found(9, 560, 4), &[4, 4, 2, 2]),
-        ("../.9", 8, 0, 3, found(4, 840, 2), &[4, 2]),
-        (".9./...", 8, 0, 2, found(3, 396, 2), &[3, 1]),
+        (".@./...", 8, 0, 2, found(5, 560, 4, 8, 0), &[4, 2, 2, 0]),
+        (open, 8, 0, 8, found(3, 396, 2, 0, 4), &[3, 3]),
+        (open, 4, 0, 8, found(9, 560, 4, 8, 0), &[4, 4, 2, 2]),
+        ("../.9", 8, 0, 3, found(4, 840, 2, 12, 0), &[4, 2]),
+        (".9./...", 8, 0, 2, found(3, 396, 2, 0, 4), &[3, 1]),
         (".@.", 8, 0, 2, none(1), &[]),
-        (".", 8, 0, 0, found(1, 0, 0), &[]),
-        (".9", 8, 0, 1, found(2, 700, 1), &[2]),
-        (".9", 8, 1, 0, found(2, 700, 1), &[6]),
+        (".", 8, 0, 0, found(1, 0, 0, 0, 0), &[]),
+        (".9", 8, 0, 1, found(2, 700, 1, 10, 0), &[2]),
+        (".9", 8, 1, 0, found(2, 700, 1, 10, 0), &[6]),
         (".@/@.", 8, 0, 3, none(1), &[]),
-        ("../..", 4, 3, 0, found(4, 280, 2), &[6, 0]),
-        (".../...", 8, 3, 2, found(4, 338, 2), &[2, 1]),
+        ("../..", 4, 3, 0, found(4, 280, 2, 4, 0), &[6, 0]),
+        (".../...", 8, 3, 2, found(4, 338, 2, 2, 2), &[2, 1]),
     ]
 }
 
@@ -211,6 +218,26 @@ fn aimed() -> Vec<Call> {
         );
         assert_eq!(given, answer, "A* on {}", map);
         assert_eq!(&rooms.route[..route.len()], route, "A* on {}", map);
+        calls.push(call);
+    }
+    calls
+}
+
+/// Between the first cell and the last there are eight diagonal steps with Q = 140 and sixteen straight ones with P = 198, at the same cost. The last step
+/// of the diagonal ones is 3; of the straight ones it is 4 on the first floor, and 2 on the second, which is the first one turned over.
+#[rustfmt::skip]
+fn tied_cases() -> Vec<(&'static str, Answer)> {
+    vec![
+        ("966666666/999@@@@@6/@999@@@@6/@@999@@@6/@@@999@@6/@@@@999@6/@@@@@9896/@@@@@@986/@@@@@@@99", found(38, 13860, 8, 0, 140)),
+        ("99@@@@@@@/699@@@@@@/6999@@@@@/6@999@@@@/6@@999@@@/6@@@999@@/6@@@@989@/6@@@@@989/666666669", found(38, 13860, 16, 198, 0)),
+    ]
+}
+
+fn tied() -> Vec<Call> {
+    let mut calls = Vec::new();
+    for (map, answer) in tied_cases() {
+        let call = drawn(What::Search, map, 8, 0, 80, 81);
+        assert_eq!(searched(&call).0, answer, "the sums on {}", map);
         calls.push(call);
     }
     calls

@@ -12,7 +12,7 @@ pub fn as_search(call: &Call) -> Call {
 }
 
 /// "Found, cost and first route are proved equal to the plain search's"; "work, the route room and what lies beyond are left as the plain search
-/// leaves them". So the replies are equal but for the settled count and the costs of the map's cells.
+/// leaves them". So the replies are equal but for the settled count and the costs of the map's cells; the route's sums are equal too.
 pub fn agree(call: &Call, searched: &[u8], aimed: &[u8]) -> bool {
     let length = call.reply_length();
     if searched.len() != length || aimed.len() != length {
@@ -20,7 +20,7 @@ pub fn agree(call: &Call, searched: &[u8], aimed: &[u8]) -> bool {
     }
     let (searched, search_rooms) = call.parts(searched);
     let (aimed, astar_rooms) = call.parts(aimed);
-    let but_settled = |six: &[u32]| [six[0], six[1], six[2], six[4], six[5]];
+    let but_settled = |front: &[u32]| [&front[..3], &front[4..]].concat();
     let beyond = |costs: &[u32]| costs.get(call.map.len()..).map(<[u32]>::to_vec);
     but_settled(&searched) == but_settled(&aimed)
         && search_rooms.route == astar_rooms.route

@@ -67,10 +67,10 @@ impl Floor {
 
     /// "A diagonal step also needs both cells beside it (same x as one end and same y as the other) open."
     pub fn cuts_corner(&self, map: &[u8], cell: u64, direction: u64) -> bool {
-        let (dx, dy, _) = DIRECTIONS[direction as usize];
-        if dx == 0 || dy == 0 {
+        if !is_diagonal(direction) {
             return false;
         }
+        let (dx, dy, _) = DIRECTIONS[direction as usize];
         let same_row = self.beside(cell, dx, 0);
         let same_column = self.beside(cell, 0, dy);
         !(is_open(map, same_row) && is_open(map, same_column))
@@ -145,8 +145,18 @@ pub fn is_open(map: &[u8], cell: Option<u64>) -> bool {
     }
 }
 
+pub fn is_diagonal(direction: u64) -> bool {
+    let (dx, dy, _) = DIRECTIONS[direction as usize];
+    dx != 0 && dy != 0
+}
+
+/// "The sum of the weights of both its cells", of a step.
+pub fn both_weights(map: &[u8], left: u64, entered: u64) -> u64 {
+    map[left as usize] as u64 + map[entered as usize] as u64
+}
+
 /// "A step now costs its unit times the sum of the weights of both its cells."
 pub fn step_cost(map: &[u8], left: u64, entered: u64, direction: u64) -> u64 {
     let (_, _, unit) = DIRECTIONS[direction as usize];
-    unit * (map[left as usize] as u64 + map[entered as usize] as u64)
+    unit * both_weights(map, left, entered)
 }

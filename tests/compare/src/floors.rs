@@ -1,4 +1,4 @@
-//! Random floors.
+//! Random floors, and floors on which routes of one cost differ in P and Q.
 
 use crate::random::Random;
 
@@ -84,4 +84,54 @@ fn maze(random: &mut Random, width: usize, height: usize) -> Vec<u8> {
         trail.push((u, v));
     }
     map
+}
+
+/// How many cells a side of such a floor has on which two ways between corners cost the same.
+const TIED: usize = 9;
+
+/// A floor on which eight diagonal steps from the first cell to the last have Q = 140, and sixteen straight ones along two sides P = 198, if the weights
+/// leave no better way: 70 × 198 = 99 × 140. The sides of the diagonal steps are open and heavy, and all else is blocked.
+pub fn tied(random: &mut Random) -> Drawn {
+    let mut map = vec![0; TIED * TIED];
+    for at in 0..TIED - 1 {
+        map[at * TIED + at + 1] = 9;
+        map[(at + 1) * TIED + at] = 9;
+        map[at + 1] = 6;
+        map[at * TIED + TIED - 1] = 6;
+    }
+    map[0] = 9;
+    for at in 1..TIED {
+        map[at * TIED + at] = 9;
+    }
+    for _ in 0..2 {
+        let at = random.between(1, TIED as u64 - 2) as usize;
+        map[at * TIED + at] -= 1;
+    }
+    for _ in 0..random.below(8) {
+        let lighter = random.between(1, TIED as u64 - 2) as usize;
+        let heavier = random.between(1, TIED as u64 - 2) as usize;
+        if map[lighter] > 1 && map[heavier * TIED + TIED - 1] < 9 {
+            map[lighter] -= 1;
+            map[heavier * TIED + TIED - 1] += 1;
+        }
+    }
+    turned(random, &map)
+}
+
+/// The floor turned over along its diagonal, or not, and then seen from the other side, or not.
+fn turned(random: &mut Random, map: &[u8]) -> Drawn {
+    let (over, mirrored) = (random.once_in(2), random.once_in(2));
+    let mut cells = Vec::new();
+    for y in 0..TIED {
+        for x in 0..TIED {
+            let x = if mirrored { TIED - 1 - x } else { x };
+            let (x, y) = if over { (y, x) } else { (x, y) };
+            cells.push(map[y * TIED + x]);
+        }
+    }
+    Drawn {
+        width: TIED as u32,
+        height: TIED as u32,
+        map: cells,
+    }
 }

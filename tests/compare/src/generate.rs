@@ -1,9 +1,10 @@
-//! Random calls and questions: mostly good ones, and wild ones of every kind that 01 and R-2 refuse.
+//! Random calls and questions: mostly good ones, and wild ones of every kind that 01, R-2 and R-6 refuse.
 
-use crate::calls::{Call, What};
+use crate::calls::{numbers, Call, What};
 use crate::claims::{check_table, TableVerdict};
 use crate::floor::{Floor, MARK};
 use crate::floors::{any_floor, Drawn};
+use crate::program::{RECORD, ZEROS_FROM};
 use crate::random::Random;
 use crate::search::{first_route, least_costs, list_l};
 
@@ -31,11 +32,30 @@ impl Scene {
     }
 
     pub fn of(random: &mut Random, drawn: &Drawn) -> Scene {
+        let ways = random.one_of(&[8, 8, 4]);
+        let start = some_cell(random, &drawn.map);
+        let goal = some_cell(random, &drawn.map);
+        Scene::between(drawn, ways, start, goal)
+    }
+
+    /// Between opposite corners of the floor: those that are open, if two are not.
+    pub fn of_corners(random: &mut Random, drawn: &Drawn) -> Scene {
+        let last = drawn.map.len() as u32 - 1;
+        let east = drawn.width - 1;
+        let (start, goal) = match drawn.map[0] {
+            0 => (east, last - east),
+            _ => (0, last),
+        };
+        let (start, goal) = random.one_of(&[(start, goal), (goal, start)]);
+        Scene::between(drawn, 8, start, goal)
+    }
+
+    fn between(drawn: &Drawn, ways: u32, start: u32, goal: u32) -> Scene {
         let mut scene = Scene {
             drawn: drawn.clone(),
-            ways: random.one_of(&[8, 8, 4]),
-            start: some_cell(random, &drawn.map),
-            goal: some_cell(random, &drawn.map),
+            ways,
+            start,
+            goal,
             table: vec![MARK; drawn.map.len()],
             route: None,
             n: 0,
@@ -418,30 +438,40 @@ pub fn small_floor(random: &mut Random) -> Drawn {
     any_floor(random, side)
 }
 
-/// A question record: "start, goal, limit (4 bytes each), ways (1), three zeros".
+/// A question record, now and then with something wrong in it, or any bytes.
 pub fn question(random: &mut Random, scene: &Scene) -> Vec<u8> {
-    let mut start = scene.start;
-    let mut goal = scene.goal;
-    let mut limit = random.one_of(&scene.limits());
-    let mut ways = scene.ways as u8;
-    let mut spare = [0, 0, 0];
     let cells = scene.drawn.map.len();
+    let mut limit = random.one_of(&scene.limits());
     if random.once_in(4) {
-        match random.below(6) {
-            0 => start = wild_cell(random, cells),
-            1 => goal = wild_cell(random, cells),
-            2 => ways = (some_ways(random) % 256) as u8,
-            3 => spare[random.below(3) as usize] = random.between(1, 255) as u8,
-            4 => limit = random.below(1 << 32) as u32,
-            _ => return (0..16).map(|_| random.below(256) as u8).collect(),
-        }
-    } else if random.once_in(3) {
         limit = random.below(cells as u64 + 2) as u32;
     }
-    let mut record = crate::calls::numbers(&[start, goal, limit]);
-    record.push(ways);
-    record.extend(spare);
+    let mut record = numbers(&[scene.start, scene.goal, limit]);
+    record.push(scene.ways as u8);
+    record.resize(RECORD, 0);
+    if random.once_in(4) {
+        for _ in 0..random.one_of(&[1, 1, 1, 2]) {
+            spoil_question(random, &mut record, cells);
+        }
+    }
     record
+}
+
+fn spoil_question(random: &mut Random, record: &mut [u8], cells: usize) {
+    let number = |value: u32| value.to_le_bytes();
+    match random.below(8) {
+        0 => record[..4].copy_from_slice(&number(wild_cell(random, cells))),
+        1 => record[4..8].copy_from_slice(&number(wild_cell(random, cells))),
+        2 => record[8..12].copy_from_slice(&number(random.below(1 << 32) as u32)),
+        3 => record[12] = (some_ways(random) % 256) as u8,
+        4 | 5 => {
+            // one of the bytes that 13 reads
+            let zeros = (RECORD - ZEROS_FROM) as u64;
+            record[ZEROS_FROM + random.below(zeros) as usize] = random.between(1, 255) as u8;
+        }
+        // two questions of a file as it was before R-6
+        6 => record.copy_within(..RECORD / 2, RECORD / 2),
+        _ => record.fill_with(|| random.below(256) as u8),
+    }
 }
 
 /// A map to be written, with a text room of about the length that is needed.

@@ -1,4 +1,4 @@
-//! The route log of R-1 (02): the reader and the writer, from R-1's sentences.
+//! The route log of R-1 (02): the reader and the writer, from R-1's sentences, with R-6's records.
 
 use crate::floor::{Refusal, MARK};
 use crate::program::{number, record_of, RECORD};
@@ -13,8 +13,8 @@ pub struct Entry {
 }
 
 impl Entry {
-    /// "An entry is the question record, the answer record and, if found, as many 16-byte records as hold the directions, the last filled up
-    /// with 255."
+    /// "An entry is the question record, the answer record and, if found, as many [..] records as hold the directions, the last filled up with
+    /// 255." R-6: "A route record holds 32 directions."
     pub fn bytes(&self) -> Vec<u8> {
         let mut bytes = [&self.question[..], &self.answer].concat();
         for directions in self.route.chunks(RECORD) {
@@ -32,7 +32,8 @@ fn refused<T>(number: u32) -> Result<T, Refusal> {
 }
 
 /// The answer that a record tells of, if R-1 takes it into a log: "kind 0, a refusal number from 1 to 15, [..] kind 1 with a cost that isn't MARK and
-/// a length up to 4,095, kind 2 [..] or kind 3 with a floor that isn't MARK". All else that R-1 asks for is what a record of such an answer has.
+/// a length up to 4,095, kind 2 [..] or kind 3 with a floor that isn't MARK". R-6: "P and Q aren't tested against the cost." All else that both ask for
+/// is what a record of such an answer has.
 fn logged(record: &[u8]) -> Option<Answer> {
     let settled = number(&record[4..]);
     let returned = number(&record[8..]);
@@ -47,6 +48,8 @@ fn logged(record: &[u8]) -> Option<Answer> {
             settled,
             cost: returned,
             length,
+            p: number(&record[16..]),
+            q: number(&record[20..]),
         },
         2 => Answer::None { settled },
         3 if !is_mark => Answer::Stopped {
@@ -56,6 +59,10 @@ fn logged(record: &[u8]) -> Option<Answer> {
         _ => return None,
     };
     Some(answer).filter(|answer| record_of(answer) == record)
+}
+
+pub fn can_be_logged(record: &[u8]) -> bool {
+    logged(record).is_some()
 }
 
 /// How many directions an entry with this answer record has. "62 the answer isn't as above."

@@ -3,18 +3,21 @@
 use crate::calls::{numbers, Call, What};
 use crate::floor::MARK;
 use crate::log::Entry;
+use crate::program::RECORD;
 use crate::random::Random;
 
 /// A route room that holds every route of a log.
 pub const EVERY_ROUTE: usize = 4095;
 
 /// A search and its answer as an entry, from the numbers of a reply and the route room that came with them.
-pub fn searched(call: &Call, six: &[u32], route: &[u8]) -> Entry {
+pub fn searched(call: &Call, front: &[u32], route: &[u8]) -> Entry {
     let mut question = numbers(&[call.start, call.goal, call.limit]);
-    question.extend([call.ways as u8, 0, 0, 0]);
-    let (kind, refusal, length) = (six[0] as u8, six[1] as u8, six[5]);
+    question.push(call.ways as u8);
+    question.resize(RECORD, 0);
+    let (kind, refusal, length) = (front[0] as u8, front[1] as u8, front[5]);
     let mut answer = vec![kind, refusal, 0, 0];
-    answer.extend(numbers(&[six[3], six[4], length]));
+    answer.extend(numbers(&front[3..]));
+    answer.resize(RECORD, 0);
     Entry {
         question,
         answer,
@@ -53,10 +56,10 @@ fn any_number(random: &mut Random) -> u32 {
 
 fn any_length(random: &mut Random) -> u32 {
     match random.below(40) {
-        0 => random.one_of(&[4079, 4080, 4081, 4094, 4095, 4096, 4097]),
+        0 => random.one_of(&[4063, 4064, 4065, 4094, 4095, 4096, 4097]),
         1 => random.one_of(&[65536, 65537, 1 << 24, MARK]),
         2..=11 => random.below(100) as u32,
-        _ => random.one_of(&[0, 1, 2, 15, 16, 17, 31, 32, 33]),
+        _ => random.one_of(&[0, 1, 2, 16, 31, 32, 33, 63, 64, 65]),
     }
 }
 
@@ -70,11 +73,13 @@ pub fn any_entry(random: &mut Random) -> Entry {
         2 => numbers(&[any_number(random), MARK, 0]),
         _ => numbers(&[any_number(random), any_number(random), length]),
     });
+    answer.extend(any_sums(random, kind));
+    answer.extend(any_zeros(random));
     if kind == 0 {
         answer[1] = random.one_of(&[1, 2, 7, 13, 14, 15, 15, 16]);
     }
     if random.once_in(12) {
-        let place = random.below(16) as usize;
+        let place = random.below(RECORD as u64) as usize;
         answer[place] = any_byte(random);
     }
     // a length far beyond what an answer may have is not made into a route
@@ -86,11 +91,31 @@ pub fn any_entry(random: &mut Random) -> Entry {
     }
 }
 
-/// "A question may be any 16 bytes."
+/// P and Q: of found any numbers, of another answer mostly 0.
+fn any_sums(random: &mut Random, kind: u8) -> Vec<u8> {
+    let mut sums = [0, 0];
+    if kind == 1 {
+        sums = [any_number(random), any_number(random)];
+    } else if random.once_in(6) {
+        sums[random.below(2) as usize] = random.one_of(&[1, 8, 256, 1 << 24, MARK]);
+    }
+    numbers(&sums)
+}
+
+/// The last eight bytes, of which one may be no zero.
+fn any_zeros(random: &mut Random) -> [u8; 8] {
+    let mut zeros = [0; 8];
+    if random.once_in(8) {
+        zeros[random.below(8) as usize] = random.one_of(&[1, 128, 255]);
+    }
+    zeros
+}
+
+/// "A question may be any [..] bytes."
 fn any_question(random: &mut Random) -> Vec<u8> {
     match random.below(4) {
-        0 => vec![255; 16],
-        _ => any_bytes(random, 16),
+        0 => vec![255; RECORD],
+        _ => any_bytes(random, RECORD),
     }
 }
 
@@ -113,14 +138,14 @@ pub fn wild_writing(random: &mut Random) -> Call {
         }
     }
     let needed = entry.bytes().len();
-    let room = random.one_of(&[needed, needed, needed + 7, needed - 1, needed - 16, 0]);
+    let room = random.one_of(&[needed, needed, needed + 7, needed - 1, needed - RECORD, 0]);
     writing(&entry, room)
 }
 
 /// A file of some entries, mostly with something wrong in it.
 pub fn any_file(random: &mut Random) -> Vec<u8> {
     if random.once_in(12) {
-        let length = random.below(80) as usize;
+        let length = random.below(5 * RECORD as u64) as usize;
         return any_bytes(random, length);
     }
     let mut file = Vec::new();
@@ -137,11 +162,12 @@ pub fn any_file(random: &mut Random) -> Vec<u8> {
 fn tear(random: &mut Random, file: &mut Vec<u8>) {
     let length = file.len() as u64;
     let anywhere = random.below(length + 1);
-    let near_the_end = length.saturating_sub(random.below(20) + 1);
-    let in_a_route = (32 + random.below(34)).min(length);
+    let record = RECORD as u64;
+    let near_the_end = length.saturating_sub(random.below(record + 4) + 1);
+    let in_a_route = (2 * record + random.below(2 * record + 2)).min(length);
     let place = random.one_of(&[anywhere, near_the_end, in_a_route]) as usize;
     match random.below(8) {
-        0 => file.truncate(random.one_of(&[place, place / 16 * 16])),
+        0 => file.truncate(random.one_of(&[place, place / RECORD * RECORD])),
         1 => file.insert(place, any_byte(random)),
         2 if place < file.len() => drop(file.remove(place)),
         3 => {
@@ -155,7 +181,7 @@ fn tear(random: &mut Random, file: &mut Vec<u8>) {
 
 /// A route room of about the length that the next entry of the rest needs, or one that holds every route.
 pub fn any_room(random: &mut Random, rest: &[u8]) -> usize {
-    let needed = match rest.get(28..30) {
+    let needed = match rest.get(RECORD + 12..RECORD + 14) {
         Some(length) => u16::from_le_bytes([length[0], length[1]]) as usize,
         None => 0,
     };

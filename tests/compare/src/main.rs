@@ -1,11 +1,11 @@
-//! Compares the proved programs with an independent planner, written from 01 and 02's alone, on random inputs.
+//! Compares the proved programs with an independent planner, written from 01 and 02's alone, on random inputs.
 //!
 //!     compare SEED COUNT FOLDER CALLS PLANNER [START..]
 //!
 //! COUNT rounds are run, each with its own random numbers. FOLDER is for `floor.map`; CALLS and PLANNER are the programs, and START the words
 //! before them that start a program on this machine. A difference is printed with its input, and the status is 1.
 //!
-//! `floor`, `search`, `claims`, `maptext`, `program`, `log` and `astar` are the independent planner: to be read beside 01 and, sentence
+//! `floor`, `search`, `claims`, `maptext`, `program`, `log` and `astar` are the independent planner: to be read beside 01 and those requests, sentence
 //! by sentence.
 
 mod astar;
@@ -45,6 +45,9 @@ const LARGE: u64 = 50;
 
 /// Every so many rounds the planner is run.
 const PLANNER: u64 = 3;
+
+/// Every so many rounds there is a floor with two ways that cost the same and differ in P and Q.
+const TIE: u64 = 5;
 
 /// What has been compared.
 #[derive(Default)]
@@ -112,8 +115,9 @@ impl Comparison {
         let expected = call.expected();
         self.counts.meet(report::outcome(call, &expected));
         if call.what == What::Search {
-            let (six, rooms) = call.parts(&expected);
-            self.searched.push(logs::searched(call, &six, &rooms.route));
+            let (front, rooms) = call.parts(&expected);
+            let entry = logs::searched(call, &front, &rooms.route);
+            self.searched.push(entry);
         }
         if self.calls.ask(call) == expected {
             return Ok(());
@@ -163,7 +167,23 @@ impl Comparison {
                 self.planner.compare(random, &mut self.counts)?;
             }
         }
-        self.compare_logs(random)
+        self.compare_logs(random)?;
+        if round % TIE == 0 {
+            self.compare_tie(random)?;
+        }
+        Ok(())
+    }
+
+    /// The first route and its sums, where routes of one cost differ in P and Q: by both engines.
+    fn compare_tie(&mut self, random: &mut Random) -> Result<(), Differs> {
+        let drawn = floors::tied(random);
+        let scene = Scene::of_corners(random, &drawn);
+        for limit in scene.limits() {
+            self.compare(&generate::good_search(random, &scene, limit))?;
+        }
+        let mut aimed = generate::good_search(random, &scene, 0);
+        aimed.what = What::Astar;
+        self.compare_astar(&aimed)
     }
 
     fn small_round(&mut self, random: &mut Random) -> Result<(), Differs> {

@@ -8,6 +8,7 @@ use std::thread;
 use std::time::Duration;
 
 use crate::calls::Call;
+use crate::program::RECORD;
 
 /// How long an answer may take. Under an emulator the longest search takes a second or two.
 const PATIENCE: Duration = Duration::from_secs(60);
@@ -126,8 +127,6 @@ pub enum Sending {
     /// record by record, each only when the one before it is answered
     OneByOne,
 }
-
-pub const RECORD: usize = 16;
 
 /// Runs the program `planner` in `folder`, where `floor.map` is, and gives its whole output.
 pub fn run_planner(

@@ -1,16 +1,16 @@
-//! The program `planner`, beside the rules of 01's "The program".
+//! The program `planner`, beside the rules of 01's "The program" and of R-6.
 
 use std::fs;
 use std::path::PathBuf;
 
-use crate::calls::{Call, What};
+use crate::calls::{numbers, Call, What};
 use crate::floors::{any_floor, Drawn};
 use crate::generate::{question, Scene};
 use crate::maptext::{read_map, text_of, Map};
-use crate::pipes::{run_planner, Sending, RECORD};
-use crate::program::output;
+use crate::pipes::{run_planner, Sending};
+use crate::program::{output, RECORD, ZEROS_FROM};
 use crate::random::Random;
-use crate::report::{hex, print_map, quoted, shrunk};
+use crate::report::{alone, hex, print_map, quoted, shrunk};
 use crate::texts::{edge_text, good_text, torn_text};
 use crate::{Counts, Differs};
 
@@ -50,14 +50,12 @@ impl Planner {
         let got = self.run(&file, &input, &sending);
         counts.map_texts += 1;
         if got == expected {
-            meet(counts, &expected);
+            meet(counts, &input, &expected);
             return Ok(());
         }
         let index = first_difference(&expected, &got) / RECORD;
-        meet(
-            counts,
-            &expected[..expected.len().min((index + 1) * RECORD)],
-        );
+        let compared = expected.len().min((index + 1) * RECORD);
+        meet(counts, &input, &expected[..compared]);
         self.report(&file, &input, &sending, &expected, &got);
         Err(Differs)
     }
@@ -151,18 +149,19 @@ impl Planner {
     }
 }
 
-/// Counts the answers, or the line about the map.
-fn meet(counts: &mut Counts, output: &[u8]) {
+/// Counts the answers to the questions, or the line about the map.
+fn meet(counts: &mut Counts, input: &[u8], output: &[u8]) {
     if output.starts_with(b"map ") {
         let line = String::from_utf8_lossy(output);
         let words: Vec<&str> = line.split_whitespace().take(3).collect();
         return counts.meet(words.join(" "));
     }
-    for record in output.chunks_exact(RECORD) {
+    for (question, record) in input.chunks(RECORD).zip(output.chunks_exact(RECORD)) {
         counts.records += 1;
         let good = ["", "found", "none", "stopped"][record[0] as usize];
         match record[1] {
             0 => counts.meet(format!("record {}", good)),
+            13 => counts.meet(format!("record 13{}", alone(question, ZEROS_FROM))),
             number => counts.meet(format!("record {}", number)),
         }
     }
@@ -189,7 +188,7 @@ fn asked(map: &Map, record: &[u8]) -> Call {
 
 /// The record of a smaller question; its ways and spare bytes are those of the first one.
 fn question_of(call: &Call, record: &[u8]) -> Vec<u8> {
-    let mut smaller = crate::calls::numbers(&[call.start, call.goal, call.limit]);
+    let mut smaller = numbers(&[call.start, call.goal, call.limit]);
     smaller.extend(&record[12..]);
     smaller
 }
@@ -222,8 +221,9 @@ fn some_input(random: &mut Random, drawn: &Drawn) -> Vec<u8> {
         scenes = scenes.saturating_sub(1);
     }
     if random.once_in(3) {
-        let broken = random.between(1, RECORD as u64 - 1) as usize;
-        input.extend(&[1, 0, 0, 0, 1, 0, 0, 0, 1, 0, 0, 0, 8, 0, 0][..broken]);
+        let mut broken = numbers(&[1, 1, 1, 8]);
+        broken.resize(random.between(1, RECORD as u64 - 1) as usize, 0);
+        input.extend(broken);
     }
     input
 }
@@ -232,9 +232,10 @@ fn some_sending(random: &mut Random) -> Sending {
     random.one_of(&[
         Sending::OneByOne,
         Sending::Pieces(vec![1]),
-        Sending::Pieces(vec![7, 16, 40]),
-        Sending::Pieces(vec![15, 17]),
-        Sending::Pieces(vec![16]),
+        Sending::Pieces(vec![7, RECORD, 80]),
+        Sending::Pieces(vec![RECORD - 1, RECORD + 1]),
+        Sending::Pieces(vec![RECORD]),
+        Sending::Pieces(vec![RECORD / 2]),
         Sending::Pieces(vec![4096]),
         Sending::Pieces(vec![100, 3, 33]),
     ])

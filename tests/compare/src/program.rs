@@ -1,10 +1,14 @@
-//! The program of 01: what it writes for a map file and for the bytes on standard input.
+//! The program of 01: what it writes for a map file and for the bytes on standard input, with R-6's records.
 
-use crate::floor::{Floor, Refusal};
+use crate::floor::{Floor, Refusal, MARK};
 use crate::maptext::{read_map, Map};
 use crate::search::{search, Answer, Rooms};
 
-pub const RECORD: usize = 16;
+/// "All records grow to 32 bytes."
+pub const RECORD: usize = 32;
+
+/// Where the zeros of a question begin: after start, goal, limit and ways.
+pub const ZEROS_FROM: usize = 13;
 
 /// The whole output. `text` is nothing if `floor.map` can't be opened.
 pub fn output(text: Option<&[u8]>, input: &[u8]) -> Vec<u8> {
@@ -49,9 +53,9 @@ pub fn number(bytes: &[u8]) -> u64 {
     u32::from_le_bytes([bytes[0], bytes[1], bytes[2], bytes[3]]) as u64
 }
 
-/// "Question: start, goal, limit (4 bytes each), ways (1), three zeros."
+/// "Question: start, goal, limit (4 bytes each), ways (1)", and R-6: "A question ends in 19 zeros in place of three (13 reads them all)."
 fn answer(map: &Map, question: &[u8]) -> Answer {
-    if question[13..] != [0, 0, 0] {
+    if question[ZEROS_FROM..].iter().any(|byte| *byte != 0) {
         return Answer::Refused(Refusal {
             number: 13,
             place: 0,
@@ -76,21 +80,25 @@ fn answer(map: &Map, question: &[u8]) -> Answer {
     search(floor, &map.cells, start, goal, limit, &mut rooms)
 }
 
-/// "Answer: kind (1 byte), refusal number (1), two zeros, settled, number returned, route length (4 each; all three 0 if refused)."
+/// "Answer: kind (1 byte), refusal number (1), two zeros, settled, number returned, route length (4 each; all three 0 if refused)", and R-6: "An answer adds
+/// P and Q after the route length and eight zeros"; "they are 0 for every other answer" than found.
 pub fn record_of(answer: &Answer) -> Vec<u8> {
-    let (kind, refusal, three) = match answer {
-        Answer::Refused(refused) => (0, refused.number as u8, [0, 0, 0]),
+    let (kind, refusal, five) = match answer {
+        Answer::Refused(refused) => (0, refused.number as u8, [0; 5]),
         Answer::Found {
             settled,
             cost,
             length,
-        } => (1, 0, [*settled, *cost, *length]),
-        Answer::None { settled } => (2, 0, [*settled, crate::floor::MARK as u64, 0]),
-        Answer::Stopped { settled, floor } => (3, 0, [*settled, *floor, 0]),
+            p,
+            q,
+        } => (1, 0, [*settled, *cost, *length, *p, *q]),
+        Answer::None { settled } => (2, 0, [*settled, MARK as u64, 0, 0, 0]),
+        Answer::Stopped { settled, floor } => (3, 0, [*settled, *floor, 0, 0, 0]),
     };
     let mut record = vec![kind, refusal, 0, 0];
-    for value in three {
+    for value in five {
         record.extend((value as u32).to_le_bytes());
     }
+    record.extend([0; 8]);
     record
 }

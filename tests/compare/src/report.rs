@@ -2,8 +2,10 @@
 
 use std::time::{Duration, Instant};
 
-use crate::calls::{numbers_of, Call, What};
+use crate::calls::{Call, What};
 use crate::floor::MARK;
+use crate::log::can_be_logged;
+use crate::program::{number, RECORD};
 
 /// Smaller inputs are tried no longer than this.
 const PATIENCE: Duration = Duration::from_secs(20);
@@ -271,9 +273,9 @@ pub fn hex(bytes: &[u8]) -> String {
     words.join(" ")
 }
 
-/// The kind of answer that a reply has, in a word and its number.
+/// The kind of answer that a reply has, in a word and its number, and which of R-6's rules it shows.
 pub fn outcome(call: &Call, reply: &[u8]) -> String {
-    let head = numbers_of(&reply[..8]);
+    let (front, _) = call.parts(reply);
     let (part, words): (&str, &[&str]) = match call.what {
         What::Search => ("search", &["refused", "found", "none", "stopped"]),
         What::RouteClaim => ("route", &["refused", "holds", "fault"]),
@@ -284,9 +286,56 @@ pub fn outcome(call: &Call, reply: &[u8]) -> String {
         What::WriteEntry => ("log writer", &["refused", "written"]),
         What::Astar => ("A*", &["refused", "found", "none"]),
     };
-    match head[1] {
-        0 => format!("{} {}", part, words[head[0] as usize]),
-        number => format!("{} {}", part, number),
+    let shown = match (call.what, front[0], front[1]) {
+        (What::Search | What::Astar, 1, _) => kinds_of_steps(front[6], front[7]),
+        (What::ReadEntry, _, 62) | (What::ReadEntry, 1, _) => of_answer(&call.text),
+        (What::WriteEntry, _, 62) | (What::WriteEntry, 1, _) => of_answer(&call.map),
+        _ => String::new(),
+    };
+    match front[1] {
+        0 => format!("{} {}{}", part, words[front[0] as usize], shown),
+        number => format!("{} {}{}", part, number, shown),
+    }
+}
+
+fn kinds_of_steps(p: u32, q: u32) -> String {
+    let kinds = match (p, q) {
+        (0, 0) => "",
+        (_, 0) => " by straight steps",
+        (0, _) => " by diagonal steps",
+        _ => " by both kinds of steps",
+    };
+    kinds.to_string()
+}
+
+/// Of an entry's question and answer: whether its sums are not those of its cost, if it can be logged; else what alone of R-6 stands against it.
+fn of_answer(entry: &[u8]) -> String {
+    let answer = &entry[RECORD..2 * RECORD];
+    let number = |at: usize| number(&answer[at..]);
+    let but = |from: usize, to: usize| {
+        let mut mended = answer.to_vec();
+        mended[from..to].fill(0);
+        can_be_logged(&mended)
+    };
+    if can_be_logged(answer) && answer[0] == 1 && 70 * number(16) + 99 * number(20) != number(8) {
+        return " with other sums".to_string();
+    }
+    if can_be_logged(answer) {
+        return String::new();
+    }
+    match (but(16, 24), but(24, RECORD)) {
+        (true, _) => " by P or Q".to_string(),
+        (_, true) => alone(answer, 24),
+        _ => String::new(),
+    }
+}
+
+/// The byte of a record that alone is not 0, from a place on.
+pub fn alone(record: &[u8], from: usize) -> String {
+    let places: Vec<usize> = (from..RECORD).filter(|place| record[*place] != 0).collect();
+    match places[..] {
+        [place] => format!(" by byte {}", place),
+        _ => String::new(),
     }
 }
 
@@ -298,16 +347,16 @@ fn reply_words(call: &Call, reply: &[u8]) -> String {
     if reply.len() < call.reply_length() {
         return format!("only {} bytes of {}", reply.len(), call.reply_length());
     }
-    let (six, rooms) = call.parts(reply);
+    let (front, rooms) = call.parts(reply);
     let named = match call.what {
-        What::Search | What::Astar => "kind, refusal, place, settled, number, length",
+        What::Search | What::Astar => "kind, refusal, place, settled, number, length, P, Q",
         What::RouteClaim => "kind, refusal or fault, place, cost",
         What::TableClaim => "kind, refusal, place or cell",
         What::ReadMap => "kind, refusal, place, width, height, ways",
         What::WriteMap | What::WriteEntry => "kind, refusal, place, length",
         What::ReadEntry => "kind, refusal, place, route length, bytes taken",
     };
-    let mut words = format!("{} {:?}", named, six);
+    let mut words = format!("{} {:?}", named, front);
     for (name, room) in [
         ("map", widened(&rooms.map)),
         ("costs", rooms.costs),

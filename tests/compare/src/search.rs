@@ -1,6 +1,6 @@
-//! The search of 01 and 02's R-2, from their definitions: least costs, the list L, the first route, and the table of answers.
+//! The search of 01 and 02's, from their definitions: least costs, the list L, the first route with its two sums, and the table of answers.
 
-use crate::floor::{refusal, Floor, Refusal, MARK};
+use crate::floor::{both_weights, is_diagonal, refusal, Floor, Refusal, MARK};
 
 /// The three lent rooms.
 #[derive(Clone, Debug, PartialEq)]
@@ -17,6 +17,8 @@ pub enum Answer {
         settled: u64,
         cost: u64,
         length: u64,
+        p: u64,
+        q: u64,
     },
     None {
         settled: u64,
@@ -114,6 +116,49 @@ fn lowest_last_step(floor: Floor, map: &[u8], costs: &[Option<u64>], cell: u64) 
     panic!("a cell with a least cost has a last step");
 }
 
+/// P and Q of a route: R-3's pairs of weights, summed "over straight steps" and "over diagonal ones".
+fn two_sums(floor: Floor, map: &[u8], start: u64, route: &[u8]) -> (u64, u64) {
+    let (mut cell, mut p, mut q) = (start, 0, 0);
+    for direction in route {
+        let direction = *direction as u64;
+        let entered = floor
+            .entered(cell, direction)
+            .expect("a route stays on the map");
+        let pair = both_weights(map, cell, entered);
+        if is_diagonal(direction) {
+            q += pair;
+        } else {
+            p += pair;
+        }
+        cell = entered;
+    }
+    (p, q)
+}
+
+/// The found answer of either engine, whose route is put into its room. "The search's found answer carries both [sums], as does A*'s."
+pub fn found(
+    floor: Floor,
+    map: &[u8],
+    (start, goal): (u64, u64),
+    costs: &[Option<u64>],
+    settled: u64,
+    room: &mut [u8],
+) -> Answer {
+    let cost = costs[goal as usize].expect("a goal that is found has a cost");
+    let route = first_route(floor, map, costs, start, goal);
+    let (p, q) = two_sums(floor, map, start, &route);
+    assert_eq!(cost, 70 * p + 99 * q, "the cost of a route and its sums");
+    room[..route.len()].copy_from_slice(&route);
+    let length = route.len() as u64;
+    Answer::Found {
+        settled,
+        cost,
+        length,
+        p,
+        q,
+    }
+}
+
 /// Refusals 1 to 11 of a question and the rooms lent to it.
 pub fn refused_question(
     floor: Floor,
@@ -175,21 +220,15 @@ pub fn search(
         *entry = 0;
     }
     match answer {
-        Answer::Found { settled, cost, .. } => {
-            let route = first_route(floor, map, &costs, start, goal);
-            rooms.route[..route.len()].copy_from_slice(&route);
-            let length = route.len() as u64;
-            Answer::Found {
-                settled,
-                cost,
-                length,
-            }
+        Answer::Found { settled, .. } => {
+            let ends = (start, goal);
+            found(floor, map, ends, &costs, settled, &mut rooms.route)
         }
         other => other,
     }
 }
 
-/// 01's table of answers, the route's length apart.
+/// 01's table of answers, what is said of the route apart.
 fn answer_of(list: &[(u64, u64)], goal: u64, limit: u64) -> Answer {
     let n = list.len() as u64;
     let place = list.iter().position(|(_, cell)| *cell == goal);
@@ -198,6 +237,8 @@ fn answer_of(list: &[(u64, u64)], goal: u64, limit: u64) -> Answer {
             settled: i as u64 + 1,
             cost: list[i].0,
             length: 0,
+            p: 0,
+            q: 0,
         },
         None if n <= limit => Answer::None { settled: n },
         _ => Answer::Stopped {
