@@ -38,15 +38,17 @@ impl Scene {
         Scene::between(drawn, ways, start, goal)
     }
 
-    /// Between opposite corners of the floor: those that are open, if two are not.
+    /// Between opposite corners of the floor that are both open.
     pub fn of_corners(random: &mut Random, drawn: &Drawn) -> Scene {
         let last = drawn.map.len() as u32 - 1;
         let east = drawn.width - 1;
-        let (start, goal) = match drawn.map[0] {
-            0 => (east, last - east),
-            _ => (0, last),
+        let is_open = |cell: u32| drawn.map[cell as usize] != 0;
+        let (a, b) = if is_open(0) && is_open(last) {
+            (0, last)
+        } else {
+            (east, last - east)
         };
-        let (start, goal) = random.one_of(&[(start, goal), (goal, start)]);
+        let (start, goal) = random.one_of(&[(a, b), (b, a)]);
         Scene::between(drawn, 8, start, goal)
     }
 
