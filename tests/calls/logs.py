@@ -419,8 +419,8 @@ def whole_files(made):
 
 
 def old_files(made):
-    """"16-byte files are no longer read": question and answer of an entry as it was before R-6, then its route and the next question, are taken for a question and
-    an answer."""
+    """"16-byte files are no longer read": question and answer of an entry as it was before R-6, then its route and the next question, are taken for a question
+    and an answer."""
     question, answer, route = QUESTION[:OLD_RECORD], EXAMPLE_ANSWER[:OLD_RECORD], bytes([4, 2, 2, 0]) + b"\xff" * 12
     stopped, none = (question + each[:OLD_RECORD] for each in (STOPPED, NONE))
     entry = question + answer + route

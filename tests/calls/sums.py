@@ -22,8 +22,8 @@ def assert_sums(case, due):
         assert (kind, p, q) == (1, *due), case
 
 
-# Map, ways, start, goal, P and Q, worked out by hand: straight steps alone, diagonal ones alone, both; the heavy cell entered, left, or between; four ways where
-# eight would go by diagonals; a route without a step. The answer of 129/934 goes east and then south-east.
+# Map, ways, start, goal, P and Q, worked out by hand: straight steps alone, diagonal ones alone, both; the heavy cell entered, left, or between; four ways
+# where eight would go by diagonals; a route without a step. The answer of 129/934 goes east and then south-east.
 BY_HAND = [
     ("...", 8, 0, 2, 4, 0),
     ("1234", 8, 0, 3, 15, 0),
@@ -71,8 +71,8 @@ def every_pair_of_weights():
 
 # ---- routes of one cost that differ in P and Q -------------------------------------------------------------------------
 
-# Between two corners there are eight diagonal steps of Q = 140 and, over the other two sides, sixteen straight ones of P = 198: 70 × 198 = 99 × 140. Half of that
-# cannot be: P + Q of a route is even or odd with the weights of its ends alone, and 99 and 70 are not both even or both odd.
+# Between two corners there are eight diagonal steps with Q = 140 and, along two sides, sixteen straight ones with P = 198: 70 × 198 = 99 × 140. Half of that
+# cannot be: whether P + Q of a route is even depends on its two ends alone, and one of 99 and 70 is even.
 TIED = [
     "966666666",
     "999@@@@@6",
@@ -155,8 +155,8 @@ def tied():
 
 
 def slanting(side, thick):
-    """One corridor of weight 9 that goes to and fro along the diagonals of the floor, `thick` of them wide, with a wall of one between; each wall is open at one
-    end. Where it is two wide only straight steps are allowed, in stairs; where it is three wide diagonal ones lead along the middle."""
+    """One corridor of weight 9 that goes to and fro along the diagonals of the floor, `thick` of them wide, with a wall of one between; each wall is open at
+    one end. Where it is two wide only straight steps are allowed, in stairs; where it is three wide diagonal ones lead along the middle."""
     cells = [0 if (x - y) % (thick + 1) == thick else 9 for y in range(side) for x in range(side)]
     walls = [number for number in range(1 - side, side) if number % (thick + 1) == thick]
     for turn, wall in enumerate(walls):

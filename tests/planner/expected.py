@@ -23,7 +23,7 @@ def output(text, records):
 
 
 def questions():
-    """For case a, `.@.` over `...`: every cell and some that are off the map, every limit that makes a difference, each refusal, and each byte that 13 reads."""
+    """For case a, `.@.` over `...`: every cell and some that are off the map, every limit that makes a difference, each refusal, each byte that 13 reads."""
     yield question(0, 2, 5, 8)
     for limit in (4, 5, 6, 0, 1, MARK):
         for start in (0, 1, 2, 3, 5, 6, MARK):
