@@ -96,7 +96,7 @@ struct Comparison {
     counts: Counts,
     /// the searches of the round, as entries of the route log
     searched: Vec<Entry>,
-    /// random numbers of the round for A* alone: a seed's other calls are those of before R-4
+    /// random numbers of the round for A* alone: so R-4 left a seed's other calls as they were
     aims: Random,
 }
 
