@@ -8,7 +8,7 @@ use answering::AnswerNumbers;
 use answering::numbers::numbers_of;
 
 // 01: kind, refusal number, two zeros, settled, number returned, route length, numbers little-endian; 02, R-6: then P, Q and eight zeros.
-pub fn record_for(n: AnswerNumbers) -> [u8; RECORD_SIZE]
+fn record_for(n: AnswerNumbers) -> [u8; RECORD_SIZE]
     requires { ⌜ SmallCodes n ⌝ }
     ensures { λ r. ⌜ r ≡ recordFor n ⌝ }
 {
