@@ -25,7 +25,7 @@ try:
     from asking import comparing, questions, reading, replaying, words
     from asking.names import visible
     from asking.output import Output, complain
-    from asking.programs import LARGEST, ROOT, Calls, Trouble, clean_up, read_text
+    from asking.programs import LARGEST, QUESTION_ZEROS, RECORD, ROOT, Calls, Trouble, clean_up, read_text
 except MemoryError:
     os.write(2, f"./run: {NO_MEMORY}\n".encode())
     os._exit(2)
@@ -35,7 +35,7 @@ except ImportError as error:  # where modules are shared objects, too little mem
 
 FAILED = 2
 
-HELP = """\
+HELP = f"""\
 MAP is map text: 'type octile', 'height H', 'width W', 'map', then H rows of W cells, each line ended by LF. A cell is
 . or G (weight 1), 1 to 9 (its weight), or @, O or T (blocked). Sides go up to 256; the program planner takes sides up to
 64, and beyond that the library answers alone. A step costs 70, diagonally 99, times its weight, which is the sum of the
@@ -45,17 +45,18 @@ one question
   ./run MAP --from x,y --to x,y
   The answer is one of: found, with its cost, steps, and true length P + Q*sqrt(2), where P and Q sum the steps' weights,
   over straight and over diagonal steps; none; stopped, when the limit of settled cells came before the goal, with the
-  floor: no route to the goal costs less; refused, with the reason. The picture shows the floor, the settled cells by
-  cost, and the route. It needs 6 columns more than the map is wide. For negative numbers write --from=-1,5.
+  floor: no route to the goal costs less; refused, with the reason. P and Q are the answer's; if the route has others, that
+  is said. The picture shows the floor, the settled cells by cost, and the route. It needs 6 columns more than the map is
+  wide. For negative numbers write --from=-1,5.
   --limit is at least 1: with 0 nothing can be settled, and it is refused. Without it the whole map is searched.
 
 two engines
   ./run MAP --from x,y --to x,y --engine astar
   ./run MAP --from x,y --to x,y --engine both
-  A* gives the kind, the cost and the route that the plain search gives, and settles no cell that the plain search does not,
-  often far fewer: those whose least cost plus estimate is at most the goal's least cost. It takes no --limit, and its
-  answers go to no --log. The picture shows the cells that A* settled. With both, each engine's answer and count are told,
-  and whether kind, cost and route are the same. The program planner has the plain search alone.
+  A* gives the kind, the cost, P and Q and the route that the plain search gives, and settles no cell that the plain search
+  does not, often far fewer: those whose least cost plus estimate is at most the goal's least cost. It takes no --limit, and
+  its answers go to no --log. The picture shows the cells that A* settled. With both, each engine's answer and count are
+  told, and whether all else is the same. The program planner has the plain search alone.
 
 a claimed route
   ./run MAP --from x,y --to x,y --check ROUTE --cost N
@@ -68,9 +69,9 @@ all least costs
 
 replay
   ./run MAP --replay QUESTIONS [--answers FILE]
-  QUESTIONS holds records of 16 bytes: start, goal and limit (4 bytes each, lowest first; cells as y * width + x, a limit of
-  at least 1, 4294967295 for none), ways (1 byte), three zeros; - is standard input. Each is answered as soon as it is read.
-  The file of --answers holds records of 16 bytes as the planner writes them; each that is not the proved answer is said,
+  QUESTIONS holds records of {RECORD} bytes: start, goal and limit (4 bytes each, lowest first; cells as y * width + x, a limit of
+  at least 1, 4294967295 for none), ways (1 byte), {len(QUESTION_ZEROS)} zeros; - is standard input. Each is answered as soon as it is read.
+  The file of --answers holds records of {RECORD} bytes as the planner writes them; each that is not the proved answer is said,
   with its bytes.
 
 route log
@@ -80,8 +81,9 @@ route log
   not end where an entry ends is left as it is, and nothing is asked. An answer with a route above 4095 steps cannot be
   logged; that is said, and the rest is.
   ./run [MAP] --read-log FILE
-  Shows the entries of FILE; - is standard input. With the map each logged route is checked as a claim, and each question is
-  asked again: an answer or a route that is not the proved one is said. Where a torn file breaks off is said too, and why.
+  Shows the entries of FILE; - is standard input. With the map each logged route is checked as a claim, its P and Q are held
+  against the logged ones, and each question is asked again: an answer or a route that is not the proved one is said. Where a
+  torn file breaks off is said too, and why.
 
 questions written
   ./run MAP --write-questions FILE --from x,y --to x,y     one record
@@ -97,7 +99,7 @@ examples
 exit status
   0  answered; a claim holds; in a replay, no given answer differs or is missing; a log is whole, and nothing in it differs
   1  a given answer differs or is missing, a claim is wrong, or a question, a claim or the map is refused; a log is torn, or
-     an entry is wrong or differs; an answer is not logged; the two engines differ
+     an entry is wrong or differs; an answer is not logged; the two engines differ, or an answer's P and Q and its route's
   2  wrong usage; a file or a program is missing or fails; not all could be written, or a log cannot be appended to;
      stopped by Ctrl-C
 """

@@ -1,4 +1,4 @@
-"""One question asked of both engines. They settle different cells; kind, cost and route must be the same."""
+"""One question asked of both engines. They settle different cells; kind, cost, P, Q and route must be the same."""
 import sys
 
 from asking import terminal, words
@@ -15,6 +15,8 @@ def differences(one, other):
         "kind": (one.answer.kind, other.answer.kind),
         "refusal": (one.answer.refusal, other.answer.refusal),
         "cost": (one.answer.number, other.answer.number),
+        "P": (one.answer.p, other.answer.p),
+        "Q": (one.answer.q, other.answer.q),
         "route": (one.rooms and one.rooms.route, other.rooms and other.rooms.route),
     }
     return [name for name, (of_one, of_other) in pairs.items() if of_one != of_other]
@@ -24,7 +26,7 @@ def verdict(differ):
     """One line that says whether the engines agree."""
     if differ:
         return f"DIFFERS: {ASTAR} and {PLAIN} have not the same {' and '.join(differ)}"
-    return f"{ASTAR} and {PLAIN} have the same kind, cost and route"
+    return f"{ASTAR} and {PLAIN} have the same kind, cost, P, Q and route"
 
 
 def named(name, lines):

@@ -35,20 +35,25 @@ SEARCH, ROUTE_CLAIM, TABLE_CLAIM, READ_MAP, ANSWER_RECORDS, READ_ENTRY, WRITE_EN
 # The eight directions: name, dx, dy.
 DIRECTIONS = (("N", 0, -1), ("NE", 1, -1), ("E", 1, 0), ("SE", 1, 1), ("S", 0, 1), ("SW", -1, 1), ("W", -1, 0), ("NW", -1, -1))
 
-RECORD = 16
+# Questions, answers and the records of a logged route have this size.
+RECORD = 32
 # Of a route log, in steps and in bytes; the longest entry is a question, an answer, and as many records as hold the longest logged route.
 LONGEST_LOGGED_ROUTE = 4095
 LONGEST_ENTRY = 2 * RECORD + -(-LONGEST_LOGGED_ROUTE // RECORD) * RECORD
-QUESTION_LAYOUT = struct.Struct("<IIIB3s")
-ANSWER_LAYOUT = struct.Struct("<BB2sIII")
+
+# The fields of a question and of an answer, and the zeros that fill up their records.
+QUESTION_FIELDS, ANSWER_FIELDS = "<3IB", "<BB2s5I"
+QUESTION_ZEROS, ANSWER_ZEROS = (bytes(RECORD - struct.calcsize(fields)) for fields in (QUESTION_FIELDS, ANSWER_FIELDS))
+QUESTION_LAYOUT = struct.Struct(f"{QUESTION_FIELDS}{len(QUESTION_ZEROS)}s")
+ANSWER_LAYOUT = struct.Struct(f"{ANSWER_FIELDS}{len(ANSWER_ZEROS)}s")
 HEAD_LAYOUT = struct.Struct("<18I")
-NUMBERS_LAYOUT = struct.Struct("<6I")
+NUMBERS_LAYOUT = struct.Struct("<8I")
 # So many records are asked at a time: their answers fit a pipe, so that neither side waits for the other.
 AT_A_TIME = 1024
 
 Floor = namedtuple("Floor", "width height cells")
 Question = namedtuple("Question", "start goal limit ways zeros")
-Answer = namedtuple("Answer", "kind refusal zeros settled number length")
+Answer = namedtuple("Answer", "kind refusal zeros settled number length p q end")
 # Of a map's text, or of an entry of a log.
 Refusal = namedtuple("Refusal", "number place")
 # An entry of a log: the two records, the directions, and how many bytes it takes there.
@@ -64,7 +69,7 @@ class Trouble(Exception):
 
 
 def question(start, goal, limit, ways):
-    return Question(start, goal, limit, ways, b"\0\0\0")
+    return Question(start, goal, limit, ways, QUESTION_ZEROS)
 
 
 def record_of(asked):
@@ -72,7 +77,7 @@ def record_of(asked):
 
 
 def whole_records(data):
-    """The 16-byte records in the data; a broken last one is left out."""
+    """The records in the data; a broken last one is left out."""
     return [data[at : at + RECORD] for at in range(0, len(data) - RECORD + 1, RECORD)]
 
 
@@ -214,7 +219,7 @@ class Calls:
         ended(self.process)
 
     def call(self, what, cells, floor=(0, 0, 0), start=0, goal=0, limit=0, costs=(0, b""), work=0, route=(0, b""), text=(0, b"")):
-        """The six numbers of the reply and its rooms, as they were left: map, costs, work, route, text. A room is its length and the bytes given; of the
+        """The eight numbers of the reply and its rooms, as they were left: map, costs, work, route, text. A room is its length and the bytes given; of the
         work room nothing is given."""
         head = (what, 0, *floor, start, goal, limit, cells[0], len(cells[1]), costs[0], len(costs[1]) // 4, work, 0)
         sent = HEAD_LAYOUT.pack(*head, route[0], len(route[1]), text[0], len(text[1])) + cells[1] + costs[1] + route[1] + text[1]
@@ -230,7 +235,7 @@ class Calls:
 
     def read_map(self, text):
         """The floor of a map's text, or its refusal."""
-        (kind, number, place, width, height, _), (cells, *_) = self.call(READ_MAP, (MOST_CELLS, b""), text=(len(text), text))
+        (kind, number, place, width, height, *_), (cells, *_) = self.call(READ_MAP, (MOST_CELLS, b""), text=(len(text), text))
         return Refusal(number, place) if kind == REFUSED else Floor(width, height, cells[: width * height])
 
     def search(self, floor, asked):
@@ -247,8 +252,8 @@ class Calls:
         numbers, (_, costs, _, route, _) = self.call(
             engine, (size, floor.cells), shape, asked.start, asked.goal, asked.limit, costs=(size, b""), work=2 * size, route=(size, b"")
         )
-        kind, refusal, _, settled, number, length = numbers
-        answer = Answer(kind, refusal, b"\0\0", settled, number, length)
+        kind, refusal, _, settled, number, length, p, q = numbers
+        answer = Answer(kind, refusal, b"\0\0", settled, number, length, p, q, ANSWER_ZEROS)
         if kind == REFUSED:
             return answer, None
         return answer, Rooms(struct.unpack(f"<{size}I", costs), route[:length])
@@ -257,7 +262,7 @@ class Calls:
         """What the check of claimed routes, which does not know the search, says of a route at this cost."""
         size = floor.width * floor.height
         shape = (floor.width, floor.height, asked.ways)
-        (kind, number, place, held, _, _), _ = self.call(
+        (kind, number, place, held, *_), _ = self.call(
             ROUTE_CLAIM, (size, floor.cells), shape, asked.start, asked.goal, cost, route=(len(route), route)
         )
         return Verdict(kind, number, place, held)
@@ -282,7 +287,7 @@ class Calls:
 
     def read_entry(self, rest):
         """The entry that the rest of a log begins with, or its refusal; None if the rest is empty."""
-        (kind, number, place, length, taken, _), (records, _, _, route, _) = self.call(
+        (kind, number, place, length, taken, *_), (records, _, _, route, _) = self.call(
             READ_ENTRY, (2 * RECORD, b""), route=(len(rest), b""), text=(len(rest), rest)
         )
         if kind == EMPTY:
@@ -291,7 +296,7 @@ class Calls:
 
     def write_entry(self, asked, answered, route):
         """The bytes of a log's entry, or its refusal."""
-        (kind, number, place, length, _, _), (_, _, _, _, text) = self.call(
+        (kind, number, place, length, *_), (_, _, _, _, text) = self.call(
             WRITE_ENTRY, (2 * RECORD, asked + answered), route=(len(route), route), text=(LONGEST_ENTRY, b"")
         )
         return Refusal(number, place) if kind == REFUSED else text[:length]

@@ -1,5 +1,4 @@
 """One question, one claimed route, or all least costs: asked of the proved programs, told in lines, as an object, as a picture."""
-import math
 import shutil
 import sys
 from collections import namedtuple
@@ -16,8 +15,9 @@ from asking.view import View
 
 ANSWERED, DIFFERENT = 0, 1
 
-# All about one question to one engine. `holds`: the check of claimed routes takes the route that was found. `by`: who answered.
-Outcome = namedtuple("Outcome", "floor question answer rooms holds by")
+# All about one question to one engine. `holds`: the check of claimed routes takes the route that was found. `sums`: its P and Q, as they are summed here.
+# `by`: who answered.
+Outcome = namedtuple("Outcome", "floor question answer rooms holds sums by")
 # What is told: lines, the same as an object, the picture (None: there is none), the lines over it in a file, the exit status, and trouble that has come up
 # after the answer and is raised once that is told.
 Told = namedtuple("Told", "lines object view headline status trouble", defaults=(None,))
@@ -84,8 +84,31 @@ def answer_object(answer):
     told = {"kind": words.KINDS.get(answer.kind, answer.kind)}
     if answer.kind == REFUSED:
         return {**told, **refusal_object(Refusal(answer.refusal, 0))}
-    names = {FOUND: {"cost": answer.number, "steps": answer.length}, NONE: {}, STOPPED: {"floor": answer.number}}
+    names = {
+        FOUND: {"cost": answer.number, "steps": answer.length, "p": answer.p, "q": answer.q}, NONE: {}, STOPPED: {"floor": answer.number},
+    }
     return {**told, **names.get(answer.kind, {"number": answer.number, "length": answer.length}), "settled": answer.settled}
+
+
+# ---- P and Q
+
+
+def sums_of(floor, start, route, verdict):
+    """P and Q of a claimed route, summed here; None where the check says that its steps cannot be followed."""
+    followed = verdict.kind == HOLDS or (verdict.kind == FAULT and verdict.number in (45, 46))
+    return words.sums(floor, start, route) if followed else None
+
+
+def sums_differ(found, sums):
+    """Whether P and Q of a found answer are not those of its route, as far as that has any."""
+    return sums is not None and sums != (found.p, found.q)
+
+
+def sums_object(found, sums):
+    """How P and Q of a found answer compare with those of its route."""
+    if not sums_differ(found, sums):
+        return {"sums": None if sums is None else "same"}
+    return {"sums": "differs", "route_p": sums[0], "route_q": sums[1]}
 
 
 # ---- a question
@@ -98,11 +121,12 @@ def question_in(given, floor):
 
 def checked(calls, floor, asked, answer, rooms, by):
     """An answer with what the check of claimed routes says of the route that was found."""
-    holds = False
+    holds, sums = False, None
     if answer.kind == FOUND:
         verdict = calls.check_route(floor, asked, answer.number, rooms.route)
         holds = verdict.kind == HOLDS and verdict.cost == answer.number
-    return Outcome(floor, asked, answer, rooms, holds, by)
+        sums = sums_of(floor, asked.start, rooms.route, verdict)
+    return Outcome(floor, asked, answer, rooms, holds, sums, by)
 
 
 def search(calls, floor, text, asked):
@@ -143,13 +167,11 @@ def advice(outcome):
 
 def more_about(outcome, root):
     """Lines that say more than the answer's own line."""
-    floor, answer = outcome.floor, outcome.answer
+    answer = outcome.answer
     if answer.kind == FOUND:
         verdict = "holds" if outcome.holds else "DOES NOT HOLD"
-        return [
-            words.true_length(floor, outcome.question.start, outcome.rooms.route, root),
-            f"checked as a claimed route: {verdict} at cost {answer.number}",
-        ]
+        differs = [f"DIFFERS: {words.other_sums(answer, outcome.sums)}"] if sums_differ(answer, outcome.sums) else []
+        return [words.length_line(answer, root), *differs, f"checked as a claimed route: {verdict} at cost {answer.number}"]
     line = advice(outcome)
     return [line] if line else []
 
@@ -175,12 +197,10 @@ def limit_object(outcome):
 
 def outcome_object(outcome):
     """What one engine answers."""
-    floor, answer = outcome.floor, outcome.answer
+    answer = outcome.answer
     told = {**limit_object(outcome), **answer_object(answer)}
     if answer.kind == FOUND:
-        straight, diagonal = words.sums(floor, outcome.question.start, outcome.rooms.route)
-        told |= {"route": list(outcome.rooms.route), "p": straight, "q": diagonal, "true_length": straight + diagonal * math.sqrt(2)}
-        told |= {"checked": outcome.holds}
+        told |= {"route": list(outcome.rooms.route), "true_length": words.true_length(answer), **sums_object(answer, outcome.sums), "checked": outcome.holds}
     if advice(outcome):
         told["advice"] = advice(outcome)
     return {**told, "answered_by": ["planner", "library"] if outcome.by == BY_BOTH else ["library"]}
@@ -203,8 +223,10 @@ def logged(told, log, outcome):
 
 
 def is_good(outcome):
-    """Whether a question is answered, and a route that was found holds."""
-    return outcome.holds if outcome.answer.kind == FOUND else outcome.answer.kind != REFUSED
+    """Whether a question is answered, and a route that was found holds and has the answer's P and Q."""
+    if outcome.answer.kind == FOUND:
+        return outcome.holds and not sums_differ(outcome.answer, outcome.sums)
+    return outcome.answer.kind != REFUSED
 
 
 def view_of(outcome):

@@ -7,19 +7,25 @@ from asking import words
 from asking.logfile import Entries, all_bytes
 from asking.names import base_name
 from asking.programs import FOUND, HOLDS, answer_of, is_for_program, question_of
-from asking.questions import ANSWERED, BY_LIBRARY, DIFFERENT, about_map, answer_object, first_route, refusal_object, sizes, verdict_object
-from asking.replaying import Noted, Progress, answering, asked_object, explained, explained_object
+from asking.questions import (
+    ANSWERED, BY_LIBRARY, DIFFERENT, about_map, answer_object, first_route, refusal_object, sizes, sums_differ, sums_object, sums_of, verdict_object,
+)
+from asking.replaying import Noted, Progress, answering, asked_object
 
 INDENT = 6
 
 
-class Shown(namedtuple("Shown", "number begin entry verdict proved route")):
-    """An entry: its number from 1, the byte where it begins, and, with a map, what the check says of a found one's route, the proved answer's record, and
-    the route that belongs to that."""
+class Shown(namedtuple("Shown", "number begin entry verdict sums proved route")):
+    """An entry: its number from 1, the byte where it begins, and, with a map, what the check says of a found one's route, the P and Q of that route, the
+    proved answer's record, and the route that belongs to that."""
 
     def is_wrong(self):
         """Whether its own route is none that it claims to be."""
         return self.verdict is not None and self.verdict.kind != HOLDS
+
+    def has_other_sums(self):
+        """Whether its own P and Q are not those of its own route, which the log does not test (02, R-6)."""
+        return sums_differ(answer_of(self.entry.answered), self.sums)
 
     def answer_differs(self):
         return self.proved is not None and self.proved != self.entry.answered
@@ -31,6 +37,9 @@ class Shown(namedtuple("Shown", "number begin entry verdict proved route")):
     def differs(self):
         return self.answer_differs() or self.route_differs()
 
+    def is_fine(self):
+        return not (self.is_wrong() or self.has_other_sums() or self.differs())
+
     def same_cost(self):
         return answer_of(self.proved).number == answer_of(self.entry.answered).number
 
@@ -38,10 +47,11 @@ class Shown(namedtuple("Shown", "number begin entry verdict proved route")):
 def judged(number, begin, entry, calls, floor, answers_to):
     """An entry with what is to be said of it."""
     if floor is None:
-        return Shown(number, begin, entry, None, None, b"")
-    answered, proved = answer_of(entry.answered), answers_to(entry.asked)
-    verdict = calls.check_route(floor, question_of(entry.asked), answered.number, entry.route) if answered.kind == FOUND else None
-    return Shown(number, begin, entry, verdict, proved, first_route(calls, floor, entry.asked, proved))
+        return Shown(number, begin, entry, None, None, None, b"")
+    asked, answered, proved = question_of(entry.asked), answer_of(entry.answered), answers_to(entry.asked)
+    verdict = calls.check_route(floor, asked, answered.number, entry.route) if answered.kind == FOUND else None
+    sums = sums_of(floor, asked.start, entry.route, verdict) if verdict else None
+    return Shown(number, begin, entry, verdict, sums, proved, first_route(calls, floor, entry.asked, proved))
 
 
 # ---- what is told
@@ -53,17 +63,18 @@ def route_lines(name, route):
 
 
 def entry_lines(shown, floor):
-    entry, asked = shown.entry, question_of(shown.entry.asked)
+    entry, asked, answered = shown.entry, question_of(shown.entry.asked), answer_of(shown.entry.answered)
     where = f"entry {shown.number} (bytes {shown.begin} to {shown.begin + entry.taken - 1})"
     yield f"{shown.number:>4}  {words.asked(floor, asked)}"
-    yield f"      {words.answer(answer_of(entry.answered))}"
+    yield f"      {words.answer(answered, sums=True)}"
     if entry.route:
         yield from route_lines("route:", entry.route)
     if shown.is_wrong():
         yield f"      WRONG: {where}, checked as a claimed route: {words.objection(shown.verdict, floor, entry.route, asked.start)}"
+    if shown.has_other_sums():
+        yield f"      WRONG: {where}: {words.other_sums(answered, shown.sums)}"
     if shown.answer_differs():
-        yield f"      DIFFERS: {where}; the proved answer is {words.answer(answer_of(shown.proved))}"
-        yield from explained(entry.answered, shown.proved)
+        yield f"      DIFFERS: {where}; the proved answer is {words.answer(answer_of(shown.proved), sums=True)}"
         yield f"        logged {entry.answered.hex(' ')}"
         yield f"        proved {shown.proved.hex(' ')}"
     if shown.route_differs():
@@ -78,12 +89,11 @@ def entry_object(shown, floor):
     if answer_of(entry.answered).kind == FOUND:
         told["route"] = list(entry.route)
     if shown.verdict:
-        told["check"] = verdict_object(shown.verdict)
+        told |= {"check": verdict_object(shown.verdict), **sums_object(answer_of(entry.answered), shown.sums)}
     if shown.proved:
         told["compared"] = "differs" if shown.differs() else "same"
     if shown.proved and shown.differs():
         told["proved"] = {**answer_object(answer_of(shown.proved)), "hex": shown.proved.hex(), "route": list(shown.route)}
-        told |= explained_object(entry.answered, shown.proved)
     return told
 
 
@@ -92,17 +102,13 @@ class Tally:
 
     def __init__(self):
         self.checked = 0
-        self.wrong, self.differ = Noted(), Noted()
-        self.costs_differ = False
+        self.wrong, self.other_sums, self.differ = Noted(), Noted(), Noted()
 
     def add(self, shown):
         self.checked += shown.verdict is not None
-        if shown.is_wrong():
-            self.wrong.add(shown.number)
-        if shown.differs():
-            self.differ.add(shown.number)
-        if shown.answer_differs():
-            self.costs_differ |= words.costs_differ(answer_of(shown.entry.answered), answer_of(shown.proved))
+        for noted, so in ((self.wrong, shown.is_wrong()), (self.other_sums, shown.has_other_sums()), (self.differ, shown.differs())):
+            if so:
+                noted.add(shown.number)
 
     def lines(self, entries, floor):
         if entries.refusal:
@@ -110,19 +116,19 @@ class Tally:
         line = f"{words.count(entries.count, 'entry')} in {words.count(entries.at, 'byte')}"
         if floor:
             line += f"; {words.count(self.checked, 'route')} checked; {self.wrong.of('route', 'is wrong', 'are wrong')}"
+            if self.other_sums.count:
+                line += f"; {self.other_sums.of('answer', 'has other sums than its route', 'have other sums than their routes')}"
             line += f"; {self.differ.of('entry', 'differs', 'differ')}"
         yield line
-        if self.costs_differ:
-            yield words.COSTS_OF_THEN
 
     def object(self, entries, floor, by):
         told = {"entries": entries.count, "bytes": entries.at}
         told |= {"torn": {"byte": entries.at, **refusal_object(entries.refusal)} if entries.refusal else None}
-        told |= {"checked": self.checked, "wrong": self.wrong.count, "differ": self.differ.count, "answered_by": by} if floor else {}
-        return {"summary": told | ({"advice": words.COSTS_OF_THEN} if self.costs_differ else {})}
+        counts = {"checked": self.checked, "wrong": self.wrong.count, "other_sums": self.other_sums.count, "differ": self.differ.count}
+        return {"summary": told | ({**counts, "answered_by": by} if floor else {})}
 
     def status(self, entries):
-        return DIFFERENT if entries.refusal or self.wrong.count or self.differ.count else ANSWERED
+        return DIFFERENT if entries.refusal or self.wrong.count or self.other_sums.count or self.differ.count else ANSWERED
 
 
 # ---- the log
@@ -143,7 +149,7 @@ def tell_entries(given, calls, floor, text, out, entries):
             for begin, entry in entries:
                 shown = judged(entries.count, begin, entry, calls, floor, answers_to)
                 tally.add(shown)
-                if given.quiet and not shown.is_wrong() and not shown.differs():
+                if given.quiet and shown.is_fine():
                     pass
                 elif given.json:
                     out.object(entry_object(shown, floor))

@@ -20,6 +20,7 @@ from asking.questions import (
 )
 
 NAMED = 8  # so many numbers of answers a summary names
+QUESTIONS, ANSWERS = "the file of questions", "the file of answers"
 
 
 # ---- what is read
@@ -27,18 +28,17 @@ NAMED = 8  # so many numbers of answers a summary names
 
 def arriving(path):
     """The bytes of a file or of standard input, as they come: what is there is handed on before more is waited for."""
-    what = "the file of questions"
     if path == "-":
         if sys.stdin is None:
             raise Trouble("standard input is closed, so there are no questions")
         file = sys.stdin.buffer
     else:
-        file = open_file(path, what)
+        file = open_file(path, QUESTIONS)
     try:
         while piece := file.read1(AT_A_TIME * RECORD):
             yield piece
     except OSError as error:
-        raise Trouble(f"{what} {visible(path)} cannot be read: {error.strerror}") from None
+        raise Trouble(f"{QUESTIONS} {visible(path)} cannot be read: {error.strerror}") from None
 
 
 class GivenAnswers:
@@ -46,17 +46,17 @@ class GivenAnswers:
 
     def __init__(self, path):
         self.path = path
-        self.file = open_file(path, "the file of answers", plain=True)
+        self.file = open_file(path, ANSWERS, plain=True)
         size = os.fstat(self.file.fileno()).st_size
         if size % RECORD:
-            raise Trouble(f"the file of answers {visible(path)} is torn: {words.count(size, 'byte')} are no whole number of records of {RECORD}")
+            raise Trouble(f"{ANSWERS} {visible(path)} is torn: {words.count(size, 'byte')} are no whole number of records of {RECORD}")
 
     def read(self, count):
         """So many records more, or as many as are left."""
         try:
             return whole_records(self.file.read(count * RECORD))
         except OSError as error:
-            raise Trouble(f"the file of answers {visible(self.path)} cannot be read: {error.strerror}") from None
+            raise Trouble(f"{ANSWERS} {visible(self.path)} cannot be read: {error.strerror}") from None
 
     def left(self):
         """How many are left."""
@@ -83,29 +83,17 @@ def answering(calls, floor, text):
 Turn = namedtuple("Turn", "place asked proved given compared unlogged", defaults=(None,))
 
 
-def explained(kept, proved):
-    """A line for an answer that was kept from before a change of the rules."""
-    why = words.change_of_rules(answer_of(kept), answer_of(proved))
-    return [f"        {why}"] if why else []
-
-
-def explained_object(kept, proved):
-    why = words.change_of_rules(answer_of(kept), answer_of(proved))
-    return {"explained": why} if why else {}
-
-
 def turn_lines(turn, floor):
     yield f"{turn.place + 1:>4}  {words.asked(floor, question_of(turn.asked))}"
-    yield f"      {words.answer(answer_of(turn.proved))}"
+    yield f"      {words.answer(answer_of(turn.proved), sums=True)}"
     if answer_of(turn.proved).refusal == words.ZERO_LIMIT:
         yield f"      {words.ZERO_LIMIT_IN_A_RECORD}"
     at = f"answer {turn.place + 1} (bytes {turn.place * RECORD} to {turn.place * RECORD + RECORD - 1})"
     if turn.compared == "missing":
-        yield f"      MISSING: {at} is not in the file of answers"
+        yield f"      MISSING: {at} is not in {ANSWERS}"
     if turn.compared == "differs":
         odd = "".join(f"; {each}" for each in words.oddities(answer_of(turn.given)))
-        yield f"      DIFFERS: {at} says {words.answer(answer_of(turn.given))}{odd}"
-        yield from explained(turn.given, turn.proved)
+        yield f"      DIFFERS: {at} says {words.answer(answer_of(turn.given), sums=True)}{odd}"
         yield f"        given  {turn.given.hex(' ')}"
         yield f"        proved {turn.proved.hex(' ')}"
     if turn.unlogged:
@@ -128,7 +116,7 @@ def turn_object(turn, floor):
     if turn.compared:
         told["compared"] = turn.compared
     if turn.compared == "differs":
-        told |= {"given": {**answer_object(answer_of(turn.given)), "hex": turn.given.hex()}, **explained_object(turn.given, turn.proved)}
+        told["given"] = {**answer_object(answer_of(turn.given)), "hex": turn.given.hex()}
     if turn.unlogged:
         told["not_logged"] = refusal_object(turn.unlogged)
     return told
@@ -159,7 +147,6 @@ class Counts:
     def __init__(self):
         self.answered = 0
         self.differs, self.missing, self.unlogged = Noted(), Noted(), Noted()
-        self.costs_differ = False
         self.further = 0
         self.broken = 0
 
@@ -168,8 +155,6 @@ class Counts:
         for noted, so in ((self.differs, turn.compared == "differs"), (self.missing, turn.compared == "missing"), (self.unlogged, turn.unlogged)):
             if so:
                 noted.add(turn.place + 1)
-        if turn.compared == "differs":
-            self.costs_differ |= words.costs_differ(answer_of(turn.given), answer_of(turn.proved))
 
     def lines(self, comparing, log):
         if self.broken:
@@ -180,8 +165,6 @@ class Counts:
             if self.missing.count:
                 line += f"; {self.missing.of('answer', 'is missing', 'are missing')}"
         yield line
-        if self.costs_differ:
-            yield words.COSTS_OF_THEN
         if self.further:
             yield f"{words.count(self.further, 'given answer')} more than questions"
         if log:
@@ -191,7 +174,6 @@ class Counts:
     def object(self, by, log):
         told = {"questions": self.answered, "differ": self.differs.count, "missing": self.missing.count}
         told |= {"further": self.further, "broken_bytes": self.broken, "answered_by": by}
-        told |= {"advice": words.COSTS_OF_THEN} if self.costs_differ else {}
         return {"summary": told | ({"logged": log.appended, "not_logged": self.unlogged.count} if log else {})}
 
     def status(self):
@@ -227,10 +209,10 @@ class Progress:
 # ---- the replay
 
 
-def turns(pieces, answers_to, given, counts):
-    """The questions one after the other, each with its answer."""
+def turns(path, answers_to, given, counts):
+    """The questions of a file one after the other, each with its answer."""
     rest, place = b"", 0
-    for piece in pieces:
+    for piece in arriving(path):
         rest += piece
         whole = len(rest) - len(rest) % RECORD
         asked, rest = rest[:whole], rest[whole:]
@@ -278,8 +260,8 @@ def replay(given, calls, floor, text, out):
     """Answers a file of questions as it is read; gives the exit status."""
     log = None if given.log is None else Log(calls, given.log)
     if log:
-        log.must_not_be("the file of questions", given.replay)
-        log.must_not_be("the file of answers", given.answers)
+        log.must_not_be(QUESTIONS, given.replay)
+        log.must_not_be(ANSWERS, given.answers)
     claimed = None if given.answers is None else GivenAnswers(given.answers)
     counts, progress = Counts(), Progress(given.quiet)
     by = BY_BOTH if is_for_program(floor, text) else BY_LIBRARY
@@ -287,7 +269,7 @@ def replay(given, calls, floor, text, out):
         out.lines([f"{sizes(given.map, floor)}; answered by {'the program' if by == BY_BOTH else by}"])
     try:
         with answering(calls, floor, text) as answers_to:
-            for batch in turns(arriving(given.replay), answers_to, claimed, counts):
+            for batch in turns(given.replay, answers_to, claimed, counts):
                 batch, trouble = logged(batch, log, calls, floor) if log else (batch, None)
                 for turn in batch:
                     counts.add(turn)
@@ -347,7 +329,7 @@ def write_questions(given, floor, out):
             if cell_number(floor, cell) == MARK:
                 raise Trouble(f"{where}: {place_words(floor, cell)}; x goes from 0 to {floor.width - 1} and y from 0 to {floor.height - 1}")
         records.append(record_of(question(cell_number(floor, start), cell_number(floor, goal), limit, ways)))
-    write_file(given.write_questions, b"".join(records), "the file of questions")
+    write_file(given.write_questions, b"".join(records), QUESTIONS)
     if given.write_questions != "-":
         line = f"{words.count(len(records), 'question')} in {visible(given.write_questions)}"
         if given.json:

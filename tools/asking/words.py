@@ -1,7 +1,9 @@
 """Answers, refusals and differences in words."""
 import math
 
-from asking.programs import DIRECTIONS, FOUND, HOLDS, LARGEST, LONGEST_LOGGED_ROUTE, MARK, NONE, REFUSED, STOPPED, Answer, cells_of
+from asking.programs import (
+    ANSWER_ZEROS, DIRECTIONS, FOUND, HOLDS, LARGEST, LONGEST_LOGGED_ROUTE, MARK, NONE, QUESTION_ZEROS, RECORD, REFUSED, STOPPED, cells_of,
+)
 
 # Refusals and faults, as docs/MANUAL.md has them ("Refusals and faults").
 NUMBERS = {
@@ -17,7 +19,7 @@ NUMBERS = {
     10: "the work room is shorter than 2 x width x height",
     11: "the route room is shorter than width x height",
     12: "the claimed route is longer than width x height - 1",
-    13: "the last three bytes of the question are not all 0",
+    13: f"the last {len(QUESTION_ZEROS)} bytes of the question are not all 0",
     14: "the map is too big for the program",
     15: "the limit is 0 (left empty?), and must be at least 1",
     21: "the first line is not 'type octile'",
@@ -51,10 +53,6 @@ LEAVE_OUT = "leave out --limit to search the whole map"
 EMPTY_LIMIT = f"it is empty; a limit is a whole number from 1 to {LARGEST}; {LEAVE_OUT}"
 ZERO_LIMIT_IN_WORDS = f"nothing can be settled with limit 0; {LEAVE_OUT}"
 ZERO_LIMIT_IN_A_RECORD = f"nothing can be settled with limit 0; a record that is to search the whole map has limit {LARGEST}"
-# What to do where costs differ. It excuses nothing: by its number alone a cost of then cannot be told from a wrong one.
-COSTS_OF_THEN = "before version 2.0.0 a step counted only the cell it enters; check what was kept from then with the version that gave it"
-# How limit 0 was answered before it was refused.
-OLD_ANSWER_TO_ZERO = Answer(STOPPED, 0, b"\0\0", 0, 0, 0)
 
 CELL_CHARACTERS = "cells are . and G (weight 1), 1 to 9 (their own weight), @, O and T (blocked)"
 
@@ -90,13 +88,18 @@ def objection(given, floor, route, start):
     return f"fault {given.number} at step {given.place + 1}, {way} from {left}: {meaning(given.number)}"
 
 
-def answer(given):
-    """One line for an answer record, right or wrong."""
+def sums_of(p, q):
+    return f"P {p}, Q {q}"
+
+
+def answer(given, sums=False):
+    """One line for an answer record, right or wrong; with P and Q of a found one, where no true length is told beside it."""
     settled = f"{count(given.settled, 'cell')} settled"
     if given.kind == REFUSED:
         return refusal(given.refusal)
     if given.kind == FOUND:
-        return f"found at cost {given.number} in {count(given.length, 'step')}; {settled}"
+        more = f", {sums_of(given.p, given.q)}" if sums else ""
+        return f"found at cost {given.number} in {count(given.length, 'step')}{more}; {settled}"
     if given.kind == NONE:
         return f"none: no route leads to the goal; {settled}, all that can be reached"
     if given.kind == STOPPED:
@@ -117,19 +120,11 @@ def oddities(given):
         odd.append(f"number {given.number} in place of MARK")
     if given.kind in (NONE, STOPPED) and given.length:
         odd.append(f"route length {given.length}")
+    if given.kind != FOUND and (given.p or given.q):
+        odd.append(f"{sums_of(given.p, given.q)} in an answer that is not found")
+    if given.end != ANSWER_ZEROS:
+        odd.append(f"bytes {RECORD - len(ANSWER_ZEROS)} to {RECORD - 1} are not 0")
     return odd
-
-
-def change_of_rules(kept, proved):
-    """Why an answer that was kept is not the proved one, where the rules were others then; None elsewhere."""
-    if proved.refusal == ZERO_LIMIT and kept == OLD_ANSWER_TO_ZERO:
-        return "before version 1.3.0 limit 0 was answered as stopped at floor 0, and not refused"
-    return None
-
-
-def costs_differ(kept, proved):
-    """Whether two answers of one kind have other costs, or other floors."""
-    return kept.kind == proved.kind and kept.kind in (FOUND, STOPPED) and kept.number != proved.number
 
 
 def place(floor, cell):
@@ -141,10 +136,19 @@ def place(floor, cell):
     return f"({cell % floor.width},{cell // floor.width})"
 
 
+def spoiled_zeros(question):
+    """What stands where a question must end in zeros, from the first byte that is not 0 to the last; nothing if all are 0."""
+    spoiled = question.zeros.strip(b"\0")
+    if not spoiled:
+        return ""
+    first = RECORD - len(question.zeros.lstrip(b"\0"))
+    where = f"byte {first} is" if len(spoiled) == 1 else f"bytes {first} to {first + len(spoiled) - 1} are"
+    return f", {where} {spoiled.hex(' ')}"
+
+
 def asked(floor, question):
-    odd = "" if question.zeros == b"\0\0\0" else f", last bytes {question.zeros.hex(' ')}"
     limit = "no limit" if question.limit == LARGEST else f"limit {question.limit}"
-    return f"{place(floor, question.start)} to {place(floor, question.goal)}, {question.ways} ways, {limit}{odd}"
+    return f"{place(floor, question.start)} to {place(floor, question.goal)}, {question.ways} ways, {limit}{spoiled_zeros(question)}"
 
 
 def sums(floor, start, route):
@@ -156,9 +160,17 @@ def sums(floor, start, route):
     return straight, diagonal
 
 
-def true_length(floor, start, route, root):
-    straight, diagonal = sums(floor, start, route)
-    return f"true length {straight} + {diagonal}{root} = {straight + diagonal * math.sqrt(2):.3f}; a straight step on level floor is 2"
+def true_length(found):
+    return found.p + found.q * math.sqrt(2)
+
+
+def length_line(found, root):
+    return f"true length {found.p} + {found.q}{root} = {true_length(found):.3f}; a straight step on level floor is 2"
+
+
+def other_sums(found, sums):
+    """What is said of a found answer whose P and Q are not those of its route."""
+    return f"the answer has {sums_of(found.p, found.q)}, and its route {sums_of(*sums)}"
 
 
 def directions(route):
