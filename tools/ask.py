@@ -22,7 +22,7 @@ try:
     import re
     import sys
 
-    from asking import comparing, questions, reading, replaying, words
+    from asking import comparing, earlier, questions, reading, replaying, words
     from asking.names import visible
     from asking.output import Output, complain
     from asking.programs import LARGEST, QUESTION_ZEROS, RECORD, ROOT, Calls, Trouble, clean_up, read_text
@@ -72,7 +72,7 @@ replay
   QUESTIONS holds records of {RECORD} bytes: start, goal and limit (4 bytes each, lowest first; cells as y * width + x, a limit of
   at least 1, 4294967295 for none), ways (1 byte), {len(QUESTION_ZEROS)} zeros; - is standard input. Each is answered as soon as it is read.
   The file of --answers holds records of {RECORD} bytes as the planner writes them; each that is not the proved answer is said,
-  with its bytes.
+  with its bytes. Files from before version {earlier.SINCE}, whose records have {earlier.SIZE} bytes, are no longer read; that is said too.
 
 route log
   ./run MAP --from x,y --to x,y --log FILE
@@ -100,8 +100,8 @@ exit status
   0  answered; a claim holds; in a replay, no given answer differs or is missing; a log is whole, and nothing in it differs
   1  a given answer differs or is missing, a claim is wrong, or a question, a claim or the map is refused; a log is torn, or
      an entry is wrong or differs; an answer is not logged; the two engines differ, or an answer's P and Q and its route's
-  2  wrong usage; a file or a program is missing or fails; not all could be written, or a log cannot be appended to;
-     stopped by Ctrl-C
+  2  wrong usage; a file or a program is missing or fails; a file is from before version {earlier.SINCE}; not all could be written, or
+     a log cannot be appended to; stopped by Ctrl-C
 """
 
 

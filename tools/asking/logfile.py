@@ -7,7 +7,7 @@ import os
 import sys
 from contextlib import contextmanager, suppress
 
-from asking import words
+from asking import earlier, words
 from asking.names import visible
 from asking.programs import LONGEST_ENTRY, Refusal, Trouble, is_plain, open_file
 
@@ -82,6 +82,8 @@ class Entries:
     def __iter__(self):
         while (read := self.read()) is not None:
             if isinstance(read, Refusal):
+                if self.at == 0:
+                    earlier.refuse_log(WHAT, self.path, self.held[self.used :])
                 self.refusal = read
                 return
             begin = self.at

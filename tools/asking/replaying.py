@@ -7,7 +7,7 @@ import time
 from collections import namedtuple
 from contextlib import contextmanager
 
-from asking import words
+from asking import earlier, words
 from asking.logfile import Log
 from asking.names import visible
 from asking.output import write_file
@@ -47,9 +47,12 @@ class GivenAnswers:
     def __init__(self, path):
         self.path = path
         self.file = open_file(path, ANSWERS, plain=True)
+        earlier.refuse_answers(ANSWERS, path, self.read(AT_A_TIME))
+        self.file.seek(0)
         size = os.fstat(self.file.fileno()).st_size
         if size % RECORD:
-            raise Trouble(f"{ANSWERS} {visible(path)} is torn: {words.count(size, 'byte')} are no whole number of records of {RECORD}")
+            torn = f"is torn: {words.count(size, 'byte')} are no whole number of records of {RECORD}{earlier.half_a_record(size, 'an answer')}"
+            raise Trouble(f"{ANSWERS} {visible(path)} {torn}")
 
     def read(self, count):
         """So many records more, or as many as are left."""
@@ -158,7 +161,8 @@ class Counts:
 
     def lines(self, comparing, log):
         if self.broken:
-            yield f"the last question is broken: it has {self.broken} of {RECORD} bytes, and gets no answer"
+            hint = "" if self.answered else earlier.half_a_record(self.broken, "a question")
+            yield f"the last question is broken: it has {self.broken} of {RECORD} bytes, and gets no answer{hint}"
         line = f"{words.count(self.answered, 'question')} answered"
         if comparing:
             line += f"; {self.differs.of('given answer', 'differs', 'differ')}"
@@ -216,6 +220,8 @@ def turns(path, answers_to, given, counts):
         rest += piece
         whole = len(rest) - len(rest) % RECORD
         asked, rest = rest[:whole], rest[whole:]
+        if place == 0:
+            earlier.refuse_questions(QUESTIONS, path, whole_records(asked))
         for at in range(0, whole, AT_A_TIME * RECORD):
             some = asked[at : at + AT_A_TIME * RECORD]
             proved = whole_records(answers_to(some))
