@@ -12,7 +12,7 @@ HERE = Path(__file__).resolve().parent
 sys.path.insert(0, str(HERE.parents[1] / "tools"))
 sys.dont_write_bytecode = True
 
-from asking.programs import LARGEST, Calls, Planner, clean_up, question, record_of, whole_records  # noqa: E402
+from asking.programs import LARGEST, RECORD, Calls, Planner, clean_up, question, record_of, whole_records  # noqa: E402
 from asking.questions import first_route  # noqa: E402
 
 ALL = 4096
@@ -165,7 +165,7 @@ def furnace_questions(rows):
         asked(rows, (24, 15), (0, 24)),  # a row below the map
         asked(rows, (0, 24), (24, 15)),
         asked(rows, west, east, ways=6),
-        asked(rows, west, east)[:13] + b"\0\0\1",
+        asked(rows, west, east)[:-1] + b"\1",  # no zeros up to the end
     ]
 
 
@@ -256,13 +256,13 @@ def main():
         (folder / f"{name}.questions").write_bytes(records)
         (folder / f"{name}.answers").write_bytes(answers(text, records))
         if name == "row":
-            # a log as of a planner that drops the smallest surcharge: to it the row is level floor
+            # a log as of a planner that drops the smallest surcharge: to it the row is level floor, in cost, P and Q
             dropped = text_of([[1 if weight == 2 else weight for weight in line] for line in rows])
             (folder / "row.old.answers").write_bytes(answers(dropped, records))
             (folder / "row.old.log").write_bytes(log(dropped, records))
         if name == "furnace":
             (folder / "furnace.log").write_bytes(log(text, records))
-        print(f"{name}: {len(records) // 16} questions")
+        print(f"{name}: {len(records) // RECORD} questions")
 
 
 if __name__ == "__main__":
