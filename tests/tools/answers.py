@@ -2,7 +2,6 @@
 import json
 import math
 import random
-import struct
 from pathlib import Path
 
 import reference
@@ -89,13 +88,13 @@ def test_limits(folder):
         path = written(folder, "limits.map", text_of(text))
         rows = reference.rows_of(path.read_bytes())
         ends = [word for name, cell in (("--from", start), ("--to", goal)) for word in (name, f"{cell % len(rows[0])},{cell // len(rows[0])}")]
-        asked = [struct.pack("<IIIB3x", start, goal, limit, 8) for limit in limits(rows, start, goal)]
+        asked = [reference.asked(start, goal, limit) for limit in limits(rows, start, goal)]
         due = [reference.answer(path.read_bytes(), record) for record in asked]
         replayed = [path, "--replay", written(folder, "q", b"".join(asked)), "--answers", written(folder, "a", b"".join(due))]
         expect_run(replayed, 0, [f"{len(asked)} questions answered; 0 given answers differ"])
         count += len(asked)
         for limit, answered in enumerate(due[:2]):
-            kind, number, settled, returned, _ = struct.unpack("<BBxxIII", answered)
+            kind, number, settled, returned, *_ = reference.numbers_in(answered)
             words = [path, *ends, "--limit", limit]
             said = ("refused 15: ", f"found at cost {returned} in 0 steps; 1 cell ", "none: ", f"stopped after 1 cell at floor {returned}: ")[kind]
             expect_run([*words, "--quiet"], 0 if kind else 1, [f"8 ways, limit {limit}\n{said}"])
@@ -141,7 +140,7 @@ def test_empty_limit(folder):
     expect("no question is written that would be refused for its limit", not made.exists())
     for limit, due in (("1", 1), ("4294967295", 4294967295), (None, 4294967295)):
         expect_run([hall, "--write-questions", made, *ends, *(["--limit", limit] if limit else [])], 0, ["1 question in"])
-        expect(f"a question with limit {limit}", made.read_bytes() == struct.pack("<IIIB3x", 0, 1, due, 8), made.read_bytes().hex())
+        expect(f"a question with limit {limit}", made.read_bytes() == reference.asked(0, 1, due), made.read_bytes().hex())
     print("tools: a limit that is empty, or no number, or 0 in a question that is written")
 
 
@@ -206,7 +205,7 @@ def test_usage(folder):
     ):
         expect_run(words, 2, [], ["./run: ", complained])
     expect_run(["--help"], 0, ["usage: ./run", "exit status", "--replay QUESTIONS", "examples", "sqrt(2)", "settle at most N cells, N at least 1"])
-    expect_run(["--version"], 0, ["fradnumber 2.1.1\n"])
+    expect_run(["--version"], 0, ["fradnumber 3.0.0\n"])
     print("tools: wrong usage and missing files")
 
 
@@ -231,24 +230,14 @@ def test_large_floors(folder):
         told = json.loads(expect_run([*words, "--json"], 0))
         expect("who answered", told["answered_by"] == (["planner", "library"] if max(width, height) <= 64 else ["library"]), told)
         expect("the route", told.get("route", []) == (reference.first_route(weights, 8, costs, 0, end) if end in costs else []), told)
-        records = b"".join(struct.pack("<IIIB3x", 0, generator.randrange(width * height), limit, 8) for limit in (5, width * height))
-        due = b"".join(reference.answer(path.read_bytes(), records[at : at + 16]) for at in (0, 16))
-        replayed = [path, "--replay", written(folder, "q", records), "--answers", written(folder, "a", due)]
+        records = [reference.asked(0, generator.randrange(width * height), limit) for limit in (5, width * height)]
+        due = b"".join(reference.answer(path.read_bytes(), record) for record in records)
+        replayed = [path, "--replay", written(folder, "q", b"".join(records)), "--answers", written(folder, "a", due)]
         expect_run(replayed, 0, ["2 questions answered; 0 given answers differ", "answered by the library" if max(width, height) > 64 else "answered by the program"])
     print("tools: floors up to 200 wide, answered by the library, told so")
 
 
 # ---- objects
-
-
-def sums_due(weights, start, route):
-    """P and Q of a route: both cells' weights of its straight steps and of its diagonal ones, straight ones first."""
-    x, y, due = start % len(weights[0]), start // len(weights[0]), [0, 0]
-    for direction in route:
-        dx, dy = reference.STEPS[direction]
-        due[direction % 2] += weights[y][x] + weights[y + dy][x + dx]
-        x, y = x + dx, y + dy
-    return due
 
 
 def test_json(folder):
@@ -258,7 +247,7 @@ def test_json(folder):
         told = json.loads(lines[0])
         weights = reference.rows_of(path.read_bytes())
         begin, end = (int(cell.split(",")[1]) * len(weights[0]) + int(cell.split(",")[0]) for cell in (start, goal))
-        kind, refused, settled, number, length = struct.unpack("<BBxxIII", reference.answer(path.read_bytes(), struct.pack("<IIIB3x", begin, end, limit, ways)))
+        kind, refused, settled, number, length, p, q = reference.numbers_in(reference.answer(path.read_bytes(), reference.asked(begin, end, limit, ways)))
         expect(f"case {name} is one line", lines[1:] == [""], lines)
         expect(f"case {name}: kind", (told["kind"], told.get("refusal", 0)) == (("refused", "found", "none", "stopped")[kind], refused), told)
         expect(f"case {name}: count", told.get("settled", 0) == settled and ("settled" in told) == (kind != 0), told)
@@ -267,8 +256,10 @@ def test_json(folder):
             route = reference.first_route(weights, ways, reference.least_costs(weights, ways, begin), begin, end)
             expect(f"case {name}: cost and route", (told["cost"], told["steps"], told["route"], told["checked"]) == (number, length, route, True), told)
             expect(f"case {name}: its sums", 70 * told["p"] + 99 * told["q"] == number, told)
-            expect(f"case {name}: P and Q", [told["p"], told["q"]] == sums_due(weights, begin, route), told)
+            expect(f"case {name}: P and Q", (told["p"], told["q"], told["sums"]) == (p, q, "same") and "route_p" not in told, told)
             expect(f"case {name}: true length", math.isclose(told["true_length"], told["p"] + told["q"] * math.sqrt(2)), told)
+        else:
+            expect(f"case {name}: no P and Q", not {"p", "q", "sums", "true_length"} & set(told), told)
         if kind == 3:
             expect(f"case {name}: floor", told["floor"] == number, told)
     told = json.loads(expect_run([HALLS / "furnace.map", "--from", "0,0", "--to", "1,1", "--json"], 1))
@@ -356,11 +347,11 @@ def test_costs(folder):
 def test_questions_written(folder):
     hall, made = HALLS / "furnace.map", Path(folder, "made.questions")
     expect_run([hall, "--write-questions", made, "--from", "3,12", "--to", "43,12", "--limit", "4096"], 0, ["1 question in"])
-    expect("a question from words", made.read_bytes() == struct.pack("<IIIB3x", 12 * 48 + 3, 12 * 48 + 43, 4096, 8), made.read_bytes().hex())
+    expect("a question from words", made.read_bytes() == reference.asked(12 * 48 + 3, 12 * 48 + 43, 4096), made.read_bytes().hex())
     table = "from_x,from_y,to_x,to_y,ways,limit\n3,12,43,12,8,4096\n1, 1 ,2,3\n\n0,0,47,23,4,\n"
     expect_run([hall, "--write-questions", made, "--csv", written(folder, "q.csv", table)], 0, ["3 questions in"])
     due = [(12 * 48 + 3, 12 * 48 + 43, 4096, 8), (49, 3 * 48 + 2, 4294967295, 8), (0, 23 * 48 + 47, 4294967295, 4)]
-    expect("questions from CSV", made.read_bytes() == b"".join(struct.pack("<IIIB3x", *each) for each in due), made.read_bytes().hex())
+    expect("questions from CSV", made.read_bytes() == b"".join(reference.asked(*each) for each in due), made.read_bytes().hex())
     out = expect_run([hall, "--replay", made], 0, ["(3,12) to (43,12), 8 ways, limit 4096", "(1,1) to (2,3), 8 ways, no limit", "3 questions answered"])
     expect("what is written is asked", out.count("ways") == 3, out)
     for text, complained in (

@@ -1,19 +1,18 @@
-"""The two engines: what A* answers and shows, both side by side, words that do not go with A*, and an A* that is wrong."""
+"""The two engines: what A* answers and shows, both side by side, words that do not go with A*, and engines that are wrong."""
 import json
+import math
 import re
-import struct
 import sys
 from collections import namedtuple
 from pathlib import Path
 
 import reference
-from answers import sums_due
 from common import HALLS, HERE, ROOT, expect, expect_run, run, text_of, written
 from pictures import expect_picture, expect_svg, floor_due, route_visits
 from troubles import with_programs
 
 BY_ASTAR = "answered by the library's A*; the program has the plain search alone"
-SAME = "A* and the plain search have the same kind, cost and route\n"
+SAME = "A* and the plain search have the same kind, cost, P, Q and route\n"
 KINDS = ("refused", "found", "none", "stopped")
 
 
@@ -35,8 +34,8 @@ class Asked:
         self.due = self.all_due()
 
     def all_due(self):
-        record = struct.pack("<IIIB3x", self.start, self.goal, self.size, self.ways)
-        kind, refusal, plain, cost, _ = struct.unpack("<BBxxIII", reference.answer(self.text, record))
+        answered = reference.answer(self.text, reference.asked(self.start, self.goal, self.size, self.ways))
+        kind, refusal, plain, cost, *_ = reference.numbers_in(answered)
         if kind == 0:
             return Due(kind, refusal, cost, 0, 0, [])
         costs = reference.least_costs(self.rows, self.ways, self.start)
@@ -84,8 +83,7 @@ def expect_object(what, told, asked, settled):
     expect(f"{what}: count", told.get("settled", 0) == settled and ("settled" in told) == (due.kind != 0), told)
     if due.kind == 1:
         shown = [told[name] for name in ("cost", "steps", "route", "checked", "p", "q")]
-        sums = sums_due(asked.rows, asked.start, due.route)
-        expect(f"{what}: cost and route", shown == [due.cost, len(due.route), due.route, True, *sums], told)
+        expect(f"{what}: cost and route", shown == [due.cost, len(due.route), due.route, True, *reference.sums(asked.rows, asked.start, due.route)], told)
     else:
         expect(f"{what}: no cost and no route", not {"cost", "route", "floor"} & set(told), told)
 
@@ -186,13 +184,13 @@ def test_engine_usage(folder):
     print("tools: words that do not go with A*")
 
 
-# ---- an A* that is wrong, or a program that fails
+# ---- an engine that is wrong, or a program that fails
 
 
-def with_spoiled(folder, way):
-    """A kit whose calls has an A* that is wrong in one way."""
-    spoiled = f"exec '{sys.executable}' '{HERE / 'spoiled.py'}' {way} $real \"$3\""
-    return with_programs(folder, f"spoiled {way}".replace(" ", "_"), f'case $3 in */calls) {spoiled} ;; *) exec $real "$3" ;; esac')
+def with_spoiled(folder, way, engine="astar"):
+    """A kit whose calls has an engine that is wrong in one way."""
+    spoiled = f"exec '{sys.executable}' '{HERE / 'spoiled.py'}' {engine} {way} $real \"$3\""
+    return with_programs(folder, f"spoiled_{engine}_{way}", f'case $3 in */calls) {spoiled} ;; *) exec $real "$3" ;; esac')
 
 
 def expect_different(words, env, differ, said):
@@ -211,19 +209,59 @@ def test_engines_differ(folder):
     plain = "the plain search: found at cost 560 in 4 steps; 9 cells settled\n"
     for way, asked, differ, said in (
         ("cost", words, ["cost"], ["A*: found at cost 561", plain, "A*: checked as a claimed route: DOES NOT HOLD at cost 561", "the plain search: route: 2 S, 2 E"]),
+        ("P", words, ["P"], ["A*: true length 9 + 0√2 ", "A*: DIFFERS: the answer has P 9, Q 0, and its route P 8, Q 0", "the plain search: true length 8 + 0√2 "]),
+        ("Q", words, ["Q"], ["A*: true length 8 + 1√2 ", "A*: checked as a claimed route: holds at cost 560", "the plain search: true length 8 + 0√2 "]),
+        ("exchanged", words, ["P", "Q"], ["A*: true length 0 + 8√2 ", "A*: DIFFERS: the answer has P 0, Q 8, and its route P 8, Q 0"]),
         ("route", words, ["route"], ["A*: route: 2 E, 2 S\n", "the plain search: route: 2 S, 2 E\n", "A*: checked as a claimed route: holds at cost 560"]),
-        ("kind", words, ["kind", "cost", "route"], ["A*: none: no route leads", plain, "the plain search: route: 2 S, 2 E"]),
+        ("kind", words, ["kind", "cost", "P", "route"], ["A*: none: no route leads", plain, "the plain search: route: 2 S, 2 E"]),
         ("refusal", blocked, ["refusal"], ["A*: refused 6: ", "the plain search: refused 5: "]),
     ):
         env = with_spoiled(folder, way)
         expect_different(asked, env, differ, said)
         expect_run([*asked, "--quiet"], 1 if way == "refusal" else 0, env=env)
     # alone, a wrong cost is what the check of claimed routes finds
-    expect_run([*words, "--engine", "astar", "--quiet"], 1, ["checked as a claimed route: DOES NOT HOLD at cost 561"], env={"RATTLE_HOME": str(Path(folder, "spoiled_cost"))})
+    expect_run([*words, "--engine", "astar", "--quiet"], 1, ["checked as a claimed route: DOES NOT HOLD at cost 561"], env={"RATTLE_HOME": str(Path(folder, "spoiled_astar_cost"))})
     # the count is A*'s own, and no difference
     out = expect_run([*words, "--engine", "both", "--quiet"], 0, ["4 steps; 1009 cells settled\n", plain, SAME], env=with_spoiled(folder, "settled"))
     expect("the count is told as it is", "A*: found at cost 560 in 4 steps; 1009 cells settled\n" in out, out)
-    print("tools: an A* with a wrong kind, cost, route or refusal is told as different, and is status 1")
+    print("tools: an A* with a wrong kind, cost, P, Q, route or refusal is told as different, and is status 1")
+
+
+def expect_other_sums(words, env, sums, due):
+    """An answer whose P and Q are not its route's: both are told, the true length is the answer's, and the status is 1."""
+    shown = f"true length {sums[0]} + {sums[1]}√2 = {sums[0] + sums[1] * math.sqrt(2):.3f}; a straight step on level floor is 2\n"
+    differs = f"DIFFERS: the answer has P {sums[0]}, Q {sums[1]}, and its route P {due[0]}, Q {due[1]}\n"
+    out = expect_run([*words, "--quiet"], 1, [f"{shown}{differs}checked as a claimed route: holds at cost {70 * due[0] + 99 * due[1]}\n"], env=env)
+    expect("told once", out.count("DIFFERS") == 1, out)
+    told = json.loads(expect_run([*words, "--json"], 1, env=env))
+    expect(f"{sums} as an object", [told[name] for name in ("p", "q", "sums", "route_p", "route_q", "checked")] == [*sums, "differs", *due, True], told)
+    expect(f"the true length of {sums}, as an object", math.isclose(told["true_length"], sums[0] + sums[1] * math.sqrt(2)), told)
+
+
+def test_other_sums(folder):
+    """P and Q of an answer are held against those of its route, of either engine."""
+    inside = Asked(written(folder, "inside.map", text_of("2.../9..7/...3")), (0, 0), (3, 2))
+    beyond = Asked(written(folder, "beyond.map", text_of(["2" + "." * 64, "3" * 65])), (0, 1), (64, 0))
+    for asked in (inside, beyond):
+        due, words = reference.sums(asked.rows, asked.start, asked.due.route), asked.words
+        expect("P and Q are two numbers above 0", due[0] != due[1] and all(due), due)
+        for way, sums in (("P", [due[0] + 1, due[1]]), ("Q", [due[0], due[1] + 1]), ("exchanged", due[::-1])):
+            folder_of = Path(folder, asked.path.stem)
+            expect_other_sums([*words, "--engine", "astar"], with_spoiled(folder_of, way), sums, due)
+            plain = with_spoiled(folder_of, way, "plain")
+            if asked is inside:  # the program has not been spoiled
+                expect_run(words, 2, [], ["planner and calls answer differently"], env=plain)
+            else:
+                expect_other_sums(words, plain, sums, due)
+                # that the engines agree is no excuse
+                both = with_spoiled(folder_of, way, "both")
+                expect_run([*words, "--engine", "both", "--quiet"], 1, [SAME, "DIFFERS: the answer has"], env=both)
+    words, lost = [*inside.words, "--engine", "astar"], with_spoiled(folder, "lost")
+    out = expect_run([*words, "--quiet"], 1, ["DOES NOT HOLD"], env=lost)
+    expect("a route that cannot be followed has no sums", "DIFFERS" not in out, out)
+    told = json.loads(expect_run([*words, "--json"], 1, env=lost))
+    expect("nor as an object", told["sums"] is None and told["checked"] is False and "route_p" not in told, told)
+    print("tools: answers whose P and Q are not their route's, of both engines")
 
 
 def test_program_not_asked(folder):

@@ -14,10 +14,12 @@ import engines
 import logs
 import pictures
 import replays
+import sixteen
 import troubles
 from common import wrong
 
-TESTS = {name: value for module in (answers, engines, logs, pictures, replays, troubles) for name, value in vars(module).items() if name.startswith("test_")}
+MODULES = (answers, engines, logs, pictures, replays, sixteen, troubles)
+TESTS = {name: value for module in MODULES for name, value in vars(module).items() if name.startswith("test_")}
 
 
 def run_test(name):

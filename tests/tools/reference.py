@@ -1,8 +1,9 @@
-"""A search, A* and a route log of its own for the tests: 01's rules, R-1's to R-4's, a heap, and nothing of the project."""
+"""A search, A*, records and a route log of its own for the tests: 01's rules, R-1's to R-4's and R-6's, a heap, and nothing of the project."""
 import heapq
 import struct
 
 MARK = 4294967295
+RECORD = 32  # "All records grow to 32 bytes"
 STEPS = ((0, -1), (1, -1), (1, 0), (1, 1), (0, 1), (-1, 1), (-1, 0), (-1, -1))
 
 
@@ -70,10 +71,35 @@ def settled_by_astar(rows, ways, costs, goal):
     return {cell for cell, cost in costs.items() if cost + estimate(len(rows[0]), ways, cell, goal) <= costs[goal]}
 
 
+def sums(rows, start, route):
+    """P and Q of a route: both cells' weights of its straight steps and of its diagonal ones."""
+    x, y, due = start % len(rows[0]), start // len(rows[0]), [0, 0]
+    for direction in route:
+        dx, dy = STEPS[direction]
+        due[direction % 2] += rows[y][x] + rows[y + dy][x + dx]
+        x, y = x + dx, y + dy
+    return due
+
+
+def asked(start, goal, limit=MARK, ways=8, zeros=bytes(19)):
+    """A question record; it "ends in 19 zeros"."""
+    return struct.pack("<3IB19s", start, goal, limit, ways, zeros)
+
+
+def answered(kind, settled=0, number=0, length=0, p=0, q=0, refusal=0):
+    """An answer record: "P and Q after the route length and eight zeros"."""
+    return struct.pack("<BB2x5I8x", kind, refusal, settled, number, length, p, q)
+
+
+def numbers_in(answer):
+    """Kind, refusal, settled count, number returned, route length, P and Q of an answer record."""
+    return struct.unpack("<BB2x5I8x", answer)
+
+
 def refusal(rows, start, goal, limit, ways, zeros):
     cells = [weight for row in rows for weight in row]
     tests = (
-        (13, zeros != b"\0\0\0"), (4, ways not in (4, 8)), (5, start >= len(cells)), (6, goal >= len(cells)),
+        (13, any(zeros)), (4, ways not in (4, 8)), (5, start >= len(cells)), (6, goal >= len(cells)),
         (7, start < len(cells) and cells[start] == 0), (8, goal < len(cells) and cells[goal] == 0), (15, limit == 0),
     )
     return next((number for number, applies in tests if applies), 0)
@@ -82,28 +108,33 @@ def refusal(rows, start, goal, limit, ways, zeros):
 def answer(text, record):
     """The answer record to a question record."""
     rows = rows_of(text)
-    start, goal, limit, ways, zeros = struct.unpack("<IIIB3s", record)
+    start, goal, limit, ways, zeros = struct.unpack("<3IB19s", record)
     number = refusal(rows, start, goal, limit, ways, zeros)
     if number:
-        return struct.pack("<BBxxIII", 0, number, 0, 0, 0)
+        return answered(0, refusal=number)
     costs = least_costs(rows, ways, start)
     listed = sorted(costs, key=lambda cell: (costs[cell], cell))
     if goal in costs and listed.index(goal) < limit:
-        length = len(first_route(rows, ways, costs, start, goal))
-        return struct.pack("<BBxxIII", 1, 0, listed.index(goal) + 1, costs[goal], length)
+        route = first_route(rows, ways, costs, start, goal)
+        return answered(1, listed.index(goal) + 1, costs[goal], len(route), *sums(rows, start, route))
     if goal not in costs and len(listed) <= limit:
-        return struct.pack("<BBxxIII", 2, 0, len(listed), MARK, 0)
-    return struct.pack("<BBxxIII", 3, 0, limit, costs[listed[limit]], 0)
+        return answered(2, len(listed), MARK)
+    return answered(3, limit, costs[listed[limit]])
 
 
-def entry(record, answered, route=()):
+def entry(record, given, route=()):
     """An entry of a route log: question, answer, and the directions in records, the last filled up with 255."""
-    return record + answered + bytes(route) + b"\xff" * (-len(route) % 16)
+    return record + given + bytes(route) + b"\xff" * (-len(route) % RECORD)
 
 
 def entry_on(text, record):
     """The entry for a question record on a map."""
-    rows, answered = rows_of(text), answer(text, record)
-    start, goal, _, ways, _ = struct.unpack("<IIIB3s", record)
-    route = first_route(rows, ways, least_costs(rows, ways, start), start, goal) if answered[0] == 1 else ()
-    return entry(record, answered, route)
+    rows, given = rows_of(text), answer(text, record)
+    start, goal, _, ways, _ = struct.unpack("<3IB19s", record)
+    route = first_route(rows, ways, least_costs(rows, ways, start), start, goal) if given[0] == 1 else ()
+    return entry(record, given, route)
+
+
+def records(data):
+    """The records of a file."""
+    return [data[at : at + RECORD] for at in range(0, len(data), RECORD)]

@@ -4,7 +4,6 @@ import os
 import pty
 import re
 import select
-import struct
 import subprocess
 import sys
 import time
@@ -12,6 +11,7 @@ from pathlib import Path
 
 import reference
 from common import ASK, HALLS, LONG, ROOT, environment, expect, expect_run, run, text_of, written
+from reference import RECORD, records
 
 
 def test_halls(folder):
@@ -24,11 +24,11 @@ def test_halls(folder):
             expect(f"{path.name} is what make.py makes", made.exists() and made.read_bytes() == path.read_bytes())
     for hall in sorted(HALLS.glob("*.map")):
         questions, answers = hall.with_suffix(".questions"), hall.with_suffix(".answers")
-        asked, stored, text = questions.read_bytes(), answers.read_bytes(), hall.read_bytes()
-        expect_run([hall, "--replay", questions, "--answers", answers], 0, [f"{len(asked) // 16} questions answered; 0 given answers differ"])
-        for place in range(len(asked) // 16):
-            ours = reference.answer(text, asked[16 * place : 16 * place + 16])
-            expect(f"{hall.name}: answer {place + 1}", ours == stored[16 * place : 16 * place + 16], ours.hex(" "))
+        asked, stored, text = records(questions.read_bytes()), records(answers.read_bytes()), hall.read_bytes()
+        expect_run([hall, "--replay", questions, "--answers", answers], 0, [f"{len(asked)} questions answered; 0 given answers differ"])
+        for place, (record, answer) in enumerate(zip(asked, stored, strict=True), 1):
+            ours = reference.answer(text, record)
+            expect(f"{hall.name}: answer {place}", ours == answer, ours.hex(" "))
             count += 1
     print(f"tools: {count} stored answers of the halls, replayed and compared with a search of the test's own")
 
@@ -39,11 +39,24 @@ def test_story(_):
     expect_run([HALLS / "furnace.map", "--from", "43,12", "--to", "3,12"], 0, ["found at cost 6510 in 46 steps", "route: 1 E, 2 S, 41 W, 2 N"])
     through = "the claim holds: 40 steps at cost 11130"
     expect_run([HALLS / "furnace.map", "--from", "3,12", "--to", "43,12", "--check", "2" * 40, "--cost", "11130", "--quiet"], 0, [through])
+    differs = "DIFFERS: answer 1 (bytes 0 to 31) says found at cost 5600 in 40 steps, P 80, Q 0;"
     expect_run(
         [HALLS / "row.map", "--replay", HALLS / "row.questions", "--answers", HALLS / "row.old.answers"], 1,
-        ["found at cost 11130", "DIFFERS: answer 1 (bytes 0 to 15) says found at cost 5600 in 40 steps", "2 given answers differ (number 1, 2)"],
+        ["found at cost 11130 in 40 steps, P 159, Q 0;", differs, "2 given answers differ (number 1, 2)"],
     )
     print("tools: forty warm cells: the numbers of examples/halls/README.md")
+
+
+def test_replayed(_):
+    """Questions and answers of every kind, in words."""
+    expect_run([HALLS / "furnace.map", "--replay", HALLS / "furnace.questions"], 0, [
+        "   1  (3,12) to (43,12), 8 ways, limit 4096\n      found at cost 6510 in 46 steps, P 93, Q 0; 528 cells settled\n",
+        "found at cost 11374 in 31 steps, P 154, Q 6; 694 cells settled\n",
+        "(24,15) to cell 1152 (off the map), 8 ways", "refused 6: the goal is not on the map",
+        "limit 4096, byte 31 is 01\n      refused 13: the last 19 bytes of the question are not all 0", "6 ways", "refused 4",
+        "limit 0\n      refused 15: the limit is 0", "18 questions answered\n", "answered by the program\n",
+    ])
+    print("tools: replays: every kind of answer in words")
 
 
 def altered(answers, offset):
@@ -65,25 +78,20 @@ def test_compared(folder):
             expect("each is named", (compared.count("differs"), compared.count("missing")) == (counts["differ"], counts["missing"]), told)
         return out
 
-    expect_run([hall, "--replay", questions], 0, [
-        "   1  (3,12) to (43,12), 8 ways, limit 4096\n      found at cost 6510 in 46 steps; 528 cells settled\n",
-        "(24,15) to cell 1152 (off the map), 8 ways", "refused 6: the goal is not on the map",
-        "last bytes 00 00 01", "refused 13: the last three bytes", "6 ways", "refused 4", "limit 0\n      refused 15: the limit is 0", "18 questions answered\n", "answered by the program\n",
-    ])
-    out = replay(altered(answers, 16 * 6 + 8), 1, ["DIFFERS: answer 7 (bytes 96 to 111) says found at cost 11481", "1 given answer differs (number 7)"])
+    out = replay(altered(answers, RECORD * 6 + 8), 1, ["DIFFERS: answer 7 (bytes 192 to 223) says found at cost 11481", "1 given answer differs (number 7)"])
     expect("one difference", out.count("DIFFERS") == 1 and "   7  (10,7) to (37,7), 4 ways" in out and "found at cost 11480" in out, out)
-    each = answers
-    for place in range(16):
-        each = altered(each, 17 * place)
-    out = replay(each, 1, ["16 given answers differ (number 1, 2, 3, 4, 5, 6, 7, 8 and 8 more)"])
-    expect("each of the 16 bytes counts", out.count("DIFFERS") == 16, out)
-    out = replay(answers[:-16], 1, ["MISSING: answer 18 (bytes 272 to 287) is not in the file of answers", "0 given answers differ; 1 answer is missing (number 18)"])
+    each = answers * 2
+    for place in range(RECORD):
+        each = altered(each, (RECORD + 1) * place)
+    out = replay(each, 1, ["32 given answers differ (number 1, 2, 3, 4, 5, 6, 7, 8 and 24 more)"], asked * 2)
+    expect("each byte of a record counts", out.count("DIFFERS") == RECORD, out)
+    out = replay(answers[:-RECORD], 1, ["MISSING: answer 18 (bytes 544 to 575) is not in the file of answers", "0 given answers differ; 1 answer is missing (number 18)"])
     expect("missing is not different", "DIFFERS" not in out, out)
     replay(b"", 1, ["0 given answers differ; 18 answers are missing (number 1, 2, 3, 4, 5, 6, 7, 8 and 10 more)"])
-    replay(altered(answers[:-32], 8), 1, ["1 given answer differs (number 1); 2 answers are missing (number 17, 18)"])
-    replay(answers + answers[:16], 1, ["1 given answer more than questions", "0 given answers differ"])
-    replay(answers[:-3], 2, [], complained=["the file of answers", "is torn: 285 bytes are no whole number of records of 16"])
-    replay(answers, 0, ["the last question is broken: it has 7 of 16 bytes, and gets no answer", "18 questions answered; 0"], asked + b"1234567")
+    replay(altered(answers[: -2 * RECORD], 8), 1, ["1 given answer differs (number 1); 2 answers are missing (number 17, 18)"])
+    replay(answers + answers[:RECORD], 1, ["1 given answer more than questions", "0 given answers differ"])
+    replay(answers[:-3], 2, [], complained=["the file of answers", "is torn: 573 bytes are no whole number of records of 32\n"])
+    replay(answers, 0, ["the last question is broken: it has 7 of 32 bytes, and gets no answer\n", "18 questions answered; 0"], asked + b"1234567")
     replay(b"", 0, ["0 questions answered; 0 given answers differ"], b"")
     for path in (folder, "/dev/zero"):
         expect_run([hall, "--replay", questions, "--answers", path], 2, [], [f"the file of answers {path}"])
@@ -93,36 +101,64 @@ def test_compared(folder):
     print("tools: replays: altered, missing and further answers, torn and broken files, 54000 questions")
 
 
+# What is done to the first or the fourth answer of the furnace hall, found and stopped; and what is then said of it beside its own words.
+SPOILED_ANSWERS = (
+    (0, {"p": 92}, "found at cost 6510 in 46 steps, P 92, Q 0; 528 cells settled\n"), (0, {"q": 1}, "found at cost 6510 in 46 steps, P 93, Q 1; 528 cells settled\n"),
+    (0, {"p": 0, "q": 93}, "found at cost 6510 in 46 steps, P 0, Q 93; 528 cells settled\n"),
+    (3, {"p": 3}, "costs less; P 3, Q 0 in an answer that is not found\n"), (3, {"q": 5}, "costs less; P 0, Q 5 in an answer that is not found\n"),
+)
+
+
+def test_sums_compared(folder):
+    """P and Q of a given answer, and the zeros after them, are compared as all else is, and told in words and as objects."""
+    hall, stored = HALLS / "furnace.map", records((HALLS / "furnace.answers").read_bytes())
+    words = [hall, "--replay", HALLS / "furnace.questions", "--quiet", "--answers"]
+    for place, other, said in SPOILED_ANSWERS:
+        kind, refusal, settled, number, length, p, q = reference.numbers_in(stored[place])
+        given = reference.answered(kind, settled, number, length, **{"p": p, "q": q, **other}, refusal=refusal)
+        path = written(folder, "a", b"".join([*stored[:place], given, *stored[place + 1 :]]))
+        out = expect_run([*words, path], 1, [f"DIFFERS: answer {place + 1} (bytes {RECORD * place} to {RECORD * place + 31}) says ", said, "1 given answer differs"])
+        expect("both in hex", f"        given  {given.hex(' ')}\n        proved {stored[place].hex(' ')}\n" in out, out)
+        told = json.loads(expect_run([*words, path, "--json"], 1).split("\n")[0])
+        proved, claimed = ([each.get("p"), each.get("q")] for each in (told, told["given"]))
+        due = [[p, q], [other.get("p", p), other.get("q", q)]] if kind == 1 else [[None] * 2] * 2
+        expect(f"{other} as an object", (told["compared"], [proved, claimed], told["given"]["hex"]) == ("differs", due, given.hex()), told)
+    odd = b"".join([stored[0][:-1] + b"\1", *stored[1:]])
+    expect_run([*words, written(folder, "a", odd)], 1, ["P 93, Q 0; 528 cells settled; bytes 24 to 31 are not 0\n", "1 given answer differs"])
+    print("tools: replays: other P and Q, and other zeros after them")
+
+
 def test_limit_0_replayed(folder):
-    """Limit 0 in a file of questions: refused after all else, with what to do; an answer from before it was refused differs, and that is explained."""
-    path = written(folder, "a.map", text_of(".@./..."))
+    """Limit 0 in a file of questions: refused after all else, with what to do."""
+    path, last = written(folder, "a.map", text_of(".@./...")), bytes(18) + b"\1"
     # start, goal, ways, what follows them; all with limit 0
-    asked = [struct.pack("<IIIB3s", start, goal, 0, ways, zeros) for start, goal, ways, zeros in (
-        (0, 2, 8, b"\0\0\0"), (0, 2, 8, b"\0\0\1"), (0, 2, 6, b"\0\0\0"), (6, 2, 8, b"\0\0\0"), (0, 6, 8, b"\0\0\0"), (1, 2, 8, b"\0\0\0"), (0, 1, 8, b"\0\0\0"),
-        (0, 0, 4, b"\0\0\0"),
+    asked = [reference.asked(start, goal, 0, ways, zeros) for start, goal, ways, zeros in (
+        (0, 2, 8, bytes(19)), (0, 2, 8, last), (0, 2, 6, bytes(19)), (6, 2, 8, bytes(19)), (0, 6, 8, bytes(19)), (1, 2, 8, bytes(19)), (0, 1, 8, bytes(19)),
+        (0, 0, 4, bytes(19)),
     )]
     due = [reference.answer(path.read_bytes(), record) for record in asked]
     expect("each of the others is told before 15", [answer[:2] for answer in due] == [bytes((0, number)) for number in (15, 13, 4, 5, 6, 7, 8, 15)])
-    words = [path, "--replay", written(folder, "q", b"".join(asked)), "--answers"]
+    words = [path, "--replay", written(folder, "q", b"".join(asked)), "--answers", written(folder, "a", b"".join(due))]
     advice = "nothing can be settled with limit 0; a record that is to search the whole map has limit 4294967295"
     refused = f"(0,0) to (2,0), 8 ways, limit 0\n      refused 15: the limit is 0 (left empty?), and must be at least 1\n      {advice}\n"
-    out = expect_run([*words, written(folder, "a", b"".join(due))], 0, [f"   1  {refused}   2  ", "8 questions answered; 0 given answers differ"])
+    out = expect_run(words, 0, [f"   1  {refused}   2  ", "8 questions answered; 0 given answers differ"])
     expect("advice where the limit is what is wrong", out.count(advice) == 2, out)
-
-    old, odd = b"\3" + bytes(15), b"\3" + bytes(3) + b"\1" + bytes(11)
-    explained = "before version 1.3.0 limit 0 was answered as stopped at floor 0, and not refused"
-    says = "      DIFFERS: answer {} (bytes {} to {}) says stopped after {} at floor 0: no route to the goal costs less\n"
-    given = written(folder, "old", b"".join([old, old, *due[2:7], odd]))
-    out = expect_run([*words, given], 1, [
-        f"{refused}{says.format(1, 0, 15, '0 cells')}        {explained}\n        given  03 00", f"{says.format(2, 16, 31, '0 cells')}        given  03 00",
-        f"{says.format(8, 112, 127, '1 cell')}        given  03 00", "3 given answers differ (number 1, 2, 8)",
-    ])
-    expect("what limit 0 was answered with, and nothing else, is explained", out.count(explained) == 1, out)
-    told = [json.loads(line) for line in expect_run([*words, given, "--json"], 1).split("\n")[:-2]]
-    expect("explained, as an object", [each["question"] for each in told if each.get("explained") == explained] == [1], told)
+    told = [json.loads(line) for line in expect_run([*words, "--json"], 0).split("\n")[:-2]]
     expect("advice, as an object", [each["question"] for each in told if each.get("advice") == advice] == [1, 8], told)
-    expect("the given answer, as an object", (told[0]["compared"], told[0]["given"]["kind"], told[0]["given"]["floor"]) == ("differs", "stopped", 0), told[0])
-    print("tools: replays: limit 0, beside every other refusal, and as it was answered before")
+    print("tools: replays: limit 0, beside every other refusal")
+
+
+def test_spoiled_zeros(folder):
+    """A question that does not end in its zeros is refused as 13, and the line says which bytes are none."""
+    path = written(folder, "a.map", text_of(".@./..."))
+    for first, spoiled, said in (
+        (13, b"\1", "byte 13 is 01"), (31, b"\xff", "byte 31 is ff"), (16, b"\7", "byte 16 is 07"), (13, bytes(range(1, 20)), "bytes 13 to 31 are 01 02 03 04"),
+        (15, b"\1\0\2", "bytes 15 to 17 are 01 00 02"), (28, b"\x08", "byte 28 is 08"),
+    ):
+        zeros = bytes(first - 13) + spoiled + bytes(RECORD - first - len(spoiled))
+        words = [path, "--replay", written(folder, "q", reference.asked(0, 2, 5, 8, zeros)), "--answers", written(folder, "a", reference.answered(0, refusal=13))]
+        expect_run(words, 0, [f"limit 5, {said}", "\n      refused 13: the last 19 bytes of the question are not all 0\n", "1 question answered; 0 given answers differ"])
+    print("tools: replays: each of a question's zeros counts")
 
 
 SOON = 10  # seconds in which an answer comes
@@ -147,8 +183,8 @@ def test_streams(folder):
     with open(pipe, "wb", buffering=0) as feed:
         lines = [line_soon(process, [])]
         for place in range(3):
-            feed.write(asked[16 * place : 16 * place + 9])
-            feed.write(asked[16 * place + 9 : 16 * place + 16])
+            feed.write(asked[RECORD * place : RECORD * place + 9])
+            feed.write(asked[RECORD * place + 9 : RECORD * (place + 1)])
             lines += [line_soon(process, lines), line_soon(process, lines)]
             expect(f"answer {place + 1} before the next question", lines[-2].decode().startswith(f"{place + 1:>4}  ("), lines)
     rest, err = process.communicate(timeout=LONG)
@@ -160,9 +196,9 @@ def test_streams(folder):
     process = subprocess.Popen([*ASK, str(hall), "--replay", str(pipe), "--quiet"], stdout=subprocess.PIPE, stderr=terminal, env=environment())
     os.close(terminal)
     with open(pipe, "wb", buffering=0) as feed:
-        feed.write(asked[:16])
+        feed.write(asked[:RECORD])
         time.sleep(1.3)
-        feed.write(asked[16:48])
+        feed.write(asked[RECORD : 3 * RECORD])
         time.sleep(0.3)
     out, _ = process.communicate(timeout=LONG)
     shown = b""
@@ -202,6 +238,31 @@ def test_samples(folder):
             count += 1
     expect("there are samples", count >= 6)
     print(f"tools: {count} samples of the pages are what the commands print")
+
+
+def section(page, title):
+    return page.split(f"### {title}\n")[1].split("\n#")[0]
+
+
+def test_manual_records(folder):
+    """The records that docs/MANUAL.md shows byte by byte, "A question and its answer" and "An entry of 96 bytes", asked, answered and read."""
+    page = (ROOT / "docs" / "MANUAL.md").read_text(encoding="utf-8")
+    shown = section(page, "A question and its answer")
+    asked, answered = (b"".join(map(bytes.fromhex, re.findall(r"^\| `([0-9a-f ]+)` \|", part, re.MULTILINE))) for part in shown.split("and its answer:"))
+    path = written(folder, "a.map", text_of(".@./..."))
+    given = written(folder, "a", answered)
+    expect_run([path, "--replay", written(folder, "q", asked), "--answers", given], 0, ["found at cost 560 in 4 steps, P 8, Q 0; 5 cells", "1 question answered; 0 given answers differ"])
+    expect("01's example, as R-6 has it", (asked, answered) == (reference.asked(0, 2, 5), reference.answered(1, 5, 560, 4, 8)), shown)
+    zeros = {"twenty": 20, "thirty": 30}
+    others = [bytes.fromhex(digits) + bytes(zeros[count]) for digits, count in re.findall(r"answered `([0-9a-f ]+)` and (twenty|thirty) zeros", shown)]
+    questions = written(folder, "q", reference.asked(0, 2, 1) + reference.asked(0, 2, 1, zeros=bytes(18) + b"\1") + reference.asked(0, 2, 0))
+    words = [written(folder, "g.map", text_of(".@.")), "--replay", questions, "--answers", written(folder, "a", b"".join(others))]
+    expect_run(words, 0, ["none: no route leads", "refused 13: ", "refused 15: ", "3 questions answered; 0 given answers differ"])
+    lines = re.findall(r"^    ((?:[0-9a-f]{2} ){32})", section(page, "An entry of 96 bytes"), re.MULTILINE)
+    entry = b"".join(map(bytes.fromhex, lines))
+    expect("an entry of the same", entry == reference.entry(asked, answered, (4, 2, 2, 0)), entry.hex(" "))
+    expect_run([path, "--read-log", written(folder, "log", entry)], 0, ["route: 1 S, 2 E, 1 N", "1 entry in 96 bytes; 1 route checked; 0 routes are wrong; 0 entries differ"])
+    print("tools: the records of the manual, byte by byte")
 
 
 def test_run(folder):

@@ -1,15 +1,15 @@
 #!/usr/bin/env python3
-"""The program calls with an A* that is wrong: each call is handed on to the program, and what it says of A* is spoiled in one way. tests/tools/engines.py
-starts it.
+"""The program calls with an engine that is wrong: each call is handed on to the program, and what it says of that engine is spoiled in one way.
+tests/tools/engines.py starts it.
 
-    spoiled.py WAY PROGRAM ..
+    spoiled.py ENGINE WAY PROGRAM ..        ENGINE is astar, plain or both
 """
 import struct
 import subprocess
 import sys
 
-HEAD, NUMBERS = struct.Struct("<18I"), struct.Struct("<6I")
-ASTAR = 14
+HEAD, NUMBERS = struct.Struct("<18I"), struct.Struct("<8I")
+ENGINES = {"plain": (1,), "astar": (14,), "both": (1, 14)}
 # map, costs, work, route and text: bytes of an entry
 SIZES = (1, 4, 4, 1, 1)
 MARK = 4294967295
@@ -17,17 +17,24 @@ MARK = 4294967295
 
 def spoiled(way, numbers, route):
     """Numbers and route of an answer that is wrong in one way; what it does not fit is left."""
-    kind, refusal, place, settled, number, length = numbers
+    kind, refusal, place, settled, number, length, p, q = numbers
+    head = kind, refusal, place
     if way == "cost" and kind == 1:
-        return (kind, refusal, place, settled, number + 1, length), route
+        return (*head, settled, number + 1, length, p, q), route
+    if way in ("P", "Q") and kind == 1:
+        return (*head, settled, number, length, p + (way == "P"), q + (way == "Q")), route
+    if way == "exchanged":
+        return (*head, settled, number, length, q, p), route
     if way == "route":
         return numbers, route[:length][::-1] + route[length:]
+    if way == "lost" and length:
+        return numbers, b"\0" + route[1:]
     if way == "kind" and kind == 1:
-        return (2, 0, 0, settled, MARK, 0), route
+        return (2, 0, 0, settled, MARK, 0, 0, 0), route
     if way == "refusal" and kind == 0:
-        return (kind, refusal + 1, place, settled, number, length), route
+        return (kind, refusal + 1, *numbers[2:]), route
     if way == "settled" and kind != 0:
-        return (kind, refusal, place, settled + 1000, number, length), route
+        return (*head, settled + 1000, number, length, p, q), route
     return numbers, route
 
 
@@ -39,7 +46,7 @@ def spoil(way, reply, lengths):
 
 
 def main():
-    way, *program = sys.argv[1:]
+    engine, way, *program = sys.argv[1:]
     asked, answered = sys.stdin.buffer, sys.stdout.buffer
     with subprocess.Popen(program, stdin=subprocess.PIPE, stdout=subprocess.PIPE) as real:
         while len(head := asked.read(HEAD.size)) == HEAD.size:
@@ -48,7 +55,7 @@ def main():
             real.stdin.write(head + asked.read(sum(count * size for count, size in zip(given, SIZES))))
             real.stdin.flush()
             reply = real.stdout.read(NUMBERS.size + sum(length * size for length, size in zip(lengths, SIZES)))
-            answered.write(spoil(way, reply, lengths) if what == ASTAR else reply)
+            answered.write(spoil(way, reply, lengths) if what in ENGINES[engine] else reply)
             answered.flush()
 
 

@@ -162,12 +162,14 @@ def test_programs(folder):
     ended, out, err = run([HALLS / "row.map", "--replay", HALLS / "row.questions"], env=failing)
     expect("a replay whose program fails", ended == 2 and all(piece in err for piece in complained) and "answered by" in out and "questions answered" not in out, out + err)
 
-    # the answer's cost, one more than the search's
-    other = 'case $3 in */planner) head -c 16 >/dev/null; printf "\\1\\0\\0\\0\\51\\0\\0\\0\\173\\53\\0\\0\\50\\0\\0\\0" ;; *) exec $real "$3" ;; esac'
-    expect_run(ROW, 2, [], ["planner and calls answer differently"], env=with_programs(folder, "other", other))
+    # the answer's cost, or its P, one more than the search's
+    for name, cost, p in (("cost", "\\173", "\\237"), ("sum", "\\172", "\\240")):
+        answer = "\\1\\0\\0\\0\\51\\0\\0\\0" + cost + "\\53\\0\\0\\50\\0\\0\\0" + p + "\\0" * 15
+        other = f'case $3 in */planner) head -c 32 >/dev/null; printf "{answer}" ;; *) exec $real "$3" ;; esac'
+        expect_run(ROW, 2, [], ["planner and calls answer differently"], env=with_programs(folder, f"other_{name}", other))
     silent = with_programs(folder, "silent", "exit 0")
     expect_run(ROW, 2, [], ["the program calls gave no whole reply"], env=silent)
-    half = with_programs(folder, "half", 'case $3 in */planner) head -c 16 >/dev/null; printf "\\1\\0" ;; *) exec $real "$3" ;; esac')
+    half = with_programs(folder, "half", 'case $3 in */planner) head -c 32 >/dev/null; printf "\\1\\0" ;; *) exec $real "$3" ;; esac')
     expect_run(ROW, 2, [], ["the program planner did not answer every question"], env=half)
     killed = with_programs(folder, "killed", 'case $3 in */planner) kill -9 $$ ;; *) exec $real "$3" ;; esac')
     ended, out, err = run(ROW, env=killed)
