@@ -95,6 +95,7 @@ def answer_object(answer):
 
 def sums_of(floor, start, route, verdict):
     """P and Q of a claimed route, summed here; None where the check says that its steps cannot be followed."""
+    # with 45 and 46 each step is allowed
     followed = verdict.kind == HOLDS or (verdict.kind == FAULT and verdict.number in (45, 46))
     return words.sums(floor, start, route) if followed else None
 

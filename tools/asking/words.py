@@ -88,7 +88,7 @@ def objection(given, floor, route, start):
     return f"fault {given.number} at step {given.place + 1}, {way} from {left}: {meaning(given.number)}"
 
 
-def sums_of(p, q):
+def p_and_q(p, q):
     return f"P {p}, Q {q}"
 
 
@@ -98,7 +98,7 @@ def answer(given, sums=False):
     if given.kind == REFUSED:
         return refusal(given.refusal)
     if given.kind == FOUND:
-        more = f", {sums_of(given.p, given.q)}" if sums else ""
+        more = f", {p_and_q(given.p, given.q)}" if sums else ""
         return f"found at cost {given.number} in {count(given.length, 'step')}{more}; {settled}"
     if given.kind == NONE:
         return f"none: no route leads to the goal; {settled}, all that can be reached"
@@ -121,7 +121,7 @@ def oddities(given):
     if given.kind in (NONE, STOPPED) and given.length:
         odd.append(f"route length {given.length}")
     if given.kind != FOUND and (given.p or given.q):
-        odd.append(f"{sums_of(given.p, given.q)} in an answer that is not found")
+        odd.append(f"{p_and_q(given.p, given.q)} in an answer that is not found")
     if given.end != ANSWER_ZEROS:
         odd.append(f"bytes {RECORD - len(ANSWER_ZEROS)} to {RECORD - 1} are not 0")
     return odd
@@ -170,7 +170,7 @@ def length_line(found, root):
 
 def other_sums(found, sums):
     """What is said of a found answer whose P and Q are not those of its route."""
-    return f"the answer has {sums_of(found.p, found.q)}, and its route {sums_of(*sums)}"
+    return f"the answer has {p_and_q(found.p, found.q)}, and its route {p_and_q(*sums)}"
 
 
 def directions(route):
