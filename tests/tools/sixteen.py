@@ -11,7 +11,7 @@ sys.path.insert(0, str(TESTED / "tools"))
 from asking import earlier  # noqa: E402
 from asking.programs import Trouble  # noqa: E402
 
-THEN = "is from before version 3.0.0: its records have 16 bytes, which are no longer read; "
+THEN = "was recorded before records grew, in version 3.0.0: its records have 16 bytes, which are no longer read; "
 QUESTIONS, ANSWERS = f"{THEN}write the questions anew, or replay them with the version they were written for", f"{THEN}compare them with the version that gave them"
 LOG = f"{THEN}read it with the version that wrote it, and log to another file"
 NAMES = sorted(path.stem for path in HALLS.glob("*.map"))

@@ -65,7 +65,7 @@ def log_of_then(front):
 
 
 def trouble(what, path, advice):
-    return Trouble(f"{what} {visible(path)} is from before version {SINCE}: its records have {SIZE} bytes, which are no longer read; {advice}")
+    return Trouble(f"{what} {visible(path)} was recorded before records grew, in version {SINCE}: its records have {SIZE} bytes, which are no longer read; {advice}")
 
 
 def refuse_questions(what, path, records):
