@@ -1,5 +1,5 @@
 -- Which answers can be logged, test by test, in the order in which the code tries them.
-use mathlib.Core.Path.{_≡_, refl, sym, _∙_}
+use mathlib.Core.Path.{_≡_, refl, sym, _∙_, subst}
 use mathlib.Core.Logic.{_≢_, _⊎_, inl, inr, ⊎-elim}
 use mathlib.Core.Bool.{Bool, true, false, cond, not, _&&_}
 use mathlib.Core.List.{List}
@@ -10,9 +10,11 @@ use lib.Dec.{T, eqb, leb, leb→le, eqb→eq}
 use lib.ListN.{getD, take, drop}
 use lib.Seq.{getD-drop}
 use Rattle.paths.specs.Graph.{MARK}
-use Rattle.paths.proofs.Bools.{T-and}
+use Rattle.paths.proofs.Bools.{not-T-false, T-and, and-T, eq-T}
+use Rattle.floor.specs.declared.RouteLength.{RouteLength}
+use Rattle.answering.specs.declared.Answer.the-variants.{Found}
 use Rattle.answering.specs.declared.AnswerNumbers.{AnswerNumbers}
-use Rattle.recordlayout.specs.Record.{allZero, endsInEightZeros, answerIn}
+use Rattle.recordlayout.specs.Record.{allZero, endsInEightZeros, recordOf, answerIn}
 use Rattle.recordlayout.proofs.Zeros.{zero-at}
 use Rattle.logentries.specs.Entry.{greatestRefusal, greatestLength, refusalFits, noRoute, kindFits, canBeLogged, stepsIn}
 
@@ -54,42 +56,84 @@ module _ (a : List ℕ) {n : AnswerNumbers} (read : n ≡ answerIn a) where
       unfolding canBeLogged
       by-kind e = rw (ne-eqb (answerIn a .kind) 0 other-kind, zeros, e, ← read)
 
--- how many directions an answer of kind 1 to 3 has: up to 4,095 if it is found, and none otherwise
-kind-steps : (n : AnswerNumbers) → T (kindFits n) → ((n .kind ≡ 1) × (n .length ≤ greatestLength)) ⊎ (n .length ≡ 0)
+-- an answer of kind 1 to 3 is found, with up to 4,095 directions, or has no route
+kind-route : (n : AnswerNumbers) → T (kindFits n) → ((n .kind ≡ 1) × (n .length ≤ greatestLength)) ⊎ T (noRoute n)
 unfolding kindFits
-kind-steps n = go (eqb (n .kind) 1) refl (eqb (n .kind) 2) (eqb (n .kind) 3)
+kind-route n = go (eqb (n .kind) 1) refl (eqb (n .kind) 2) (eqb (n .kind) 3)
   where
-    none : (b : Bool) → T (b && noRoute n) → n .length ≡ 0
-    none b t = eqb→eq (n .length) 0 (T-and (eqb (n .length) 0) (eqb (n .p) 0 && eqb (n .q) 0) (T-and b (noRoute n) t .1) .0)
-
     go : (k₁ : Bool) → eqb (n .kind) 1 ≡ k₁ → (k₂ k₃ : Bool)
         → T
         (cond k₁ (not (eqb (n .number) MARK) && leb (n .length) greatestLength)
         (cond k₂ (eqb (n .number) MARK && noRoute n) (cond k₃ (not (eqb (n .number) MARK) && noRoute n) false)))
-        → ((n .kind ≡ 1) × (n .length ≤ greatestLength)) ⊎ (n .length ≡ 0)
+        → ((n .kind ≡ 1) × (n .length ≤ greatestLength)) ⊎ T (noRoute n)
     go true e k₂ k₃ t = inl (eqb-true (n .kind) 1 e, leb→le (n .length) greatestLength (T-and (not (eqb (n .number) MARK)) (leb (n .length) greatestLength) t .1))
-    go false e true k₃ t = inr (none (eqb (n .number) MARK) t)
-    go false e false true t = inr (none (not (eqb (n .number) MARK)) t)
+    go false e true k₃ t = inr (T-and (eqb (n .number) MARK) (noRoute n) t .1)
+    go false e false true t = inr (T-and (not (eqb (n .number) MARK)) (noRoute n) t .1)
     go false e false false t = absurd t
 
--- and so has any answer that can be logged
-pub steps-of : (a : List ℕ) → T (canBeLogged a) → ((answerIn a .kind ≡ 1) × (stepsIn a ≤ greatestLength)) ⊎ (stepsIn a ≡ 0)
-unfolding canBeLogged answerIn
-steps-of a = go (eqb (answerIn a .kind) 0)
-  where
-    none : (i : ℕ) → T (allZero (drop 2 a)) → getD a (2 + i) 0 ≡ 0
-    none i z = sym (getD-drop 2 a i 0) ∙ zero-at (drop 2 a) i z
+module _ (a : List ℕ) (logged : T (canBeLogged a)) where
+  after-refusal : T (allZero (drop 2 a)) → (i : ℕ) → getD a (2 + i) 0 ≡ 0
+  after-refusal z i = sym (getD-drop 2 a i 0) ∙ zero-at (drop 2 a) i z
 
-    no-length : T (allZero (drop 2 a)) → stepsIn a ≡ 0
-    no-length z = omega (arith, none 10 z, none 11 z, none 12 z, none 13 z)
+  -- and so any answer that can be logged is found, with up to 4,095 directions, or has no route
+  routes-of : ((answerIn a .kind ≡ 1) × (stepsIn a ≤ greatestLength)) ⊎ T (noRoute (answerIn a))
+  unfolding canBeLogged answerIn
+  routes-of = go (eqb (answerIn a .kind) 0) logged
+    where
+      zeros : T (allZero (drop 2 a)) → T (noRoute (answerIn a))
+      zeros z =
+          let at = after-refusal z in
+          and-T (eqb (answerIn a .length) 0) (eqb (answerIn a .p) 0 && eqb (answerIn a .q) 0)
+          (eq-T (answerIn a .length) 0 (omega (arith, at 10, at 11, at 12, at 13)))
+          (and-T (eqb (answerIn a .p) 0) (eqb (answerIn a .q) 0) (eq-T (answerIn a .p) 0 (omega (arith, at 14, at 15, at 16, at 17)))
+          (eq-T (answerIn a .q) 0 (omega (arith, at 18, at 19, at 20, at 21))))
 
-    go : (k : Bool)
-        → T (cond k (refusalFits (answerIn a .refusal) && allZero (drop 2 a)) (allZero (take 3 (drop 1 a)) && (endsInEightZeros a && kindFits (answerIn a))))
-        → ((answerIn a .kind ≡ 1) × (stepsIn a ≤ greatestLength)) ⊎ (stepsIn a ≡ 0)
-    go true t = inr (no-length (T-and (refusalFits (answerIn a .refusal)) (allZero (drop 2 a)) t .1))
-    go false t =
-        kind-steps (answerIn a)
-        (T-and (endsInEightZeros a) (kindFits (answerIn a)) (T-and (allZero (take 3 (drop 1 a))) (endsInEightZeros a && kindFits (answerIn a)) t .1) .1)
+      go : (k : Bool)
+          → T (cond k (refusalFits (answerIn a .refusal) && allZero (drop 2 a)) (allZero (take 3 (drop 1 a)) && (endsInEightZeros a && kindFits (answerIn a))))
+          → ((answerIn a .kind ≡ 1) × (stepsIn a ≤ greatestLength)) ⊎ T (noRoute (answerIn a))
+      go true t = inr (zeros (T-and (refusalFits (answerIn a .refusal)) (allZero (drop 2 a)) t .1))
+      go false t =
+          kind-route (answerIn a)
+          (T-and (endsInEightZeros a) (kindFits (answerIn a)) (T-and (allZero (take 3 (drop 1 a))) (endsInEightZeros a && kindFits (answerIn a)) t .1) .1)
+
+  -- its last eight bytes are 0
+  last-zeros : (i : ℕ) → getD a (24 + i) 0 ≡ 0
+  unfolding canBeLogged
+  last-zeros i = go (eqb (answerIn a .kind) 0) logged
+    where
+      further : 2 + (22 + i) ≡ 24 + i
+      further = omega arith
+
+      go : (k : Bool)
+          → T (cond k (refusalFits (answerIn a .refusal) && allZero (drop 2 a)) (allZero (take 3 (drop 1 a)) && (endsInEightZeros a && kindFits (answerIn a))))
+          → getD a (24 + i) 0 ≡ 0
+      go true t =
+          subst (λ (at : ℕ). getD a at 0 ≡ 0) further (after-refusal (T-and (refusalFits (answerIn a .refusal)) (allZero (drop 2 a)) t .1) (22 + i))
+      go false t =
+          let ends = T-and (endsInEightZeros a) (kindFits (answerIn a)) (T-and (allZero (take 3 (drop 1 a))) (endsInEightZeros a && kindFits (answerIn a)) t .1) .0 in
+          sym (getD-drop 24 a i 0) ∙ zero-at (drop 24 a) i ends
+
+  pub steps-of : ((answerIn a .kind ≡ 1) × (stepsIn a ≤ greatestLength)) ⊎ (stepsIn a ≡ 0)
+  steps-of = ⊎-elim inl (λ none. inr (eqb→eq (stepsIn a) 0 (T-and (eqb (stepsIn a) 0) (eqb (answerIn a .p) 0 && eqb (answerIn a .q) 0) none .0))) routes-of
+
+-- R-6's words: what makes an answer one that can't be logged
+pub last-byte-wrong : (a : List ℕ) (i : ℕ) → getD a (24 + i) 0 ≢ 0 → canBeLogged a ≡ false
+last-byte-wrong a i n = not-T-false (canBeLogged a) (λ t. n (last-zeros a t i))
+
+pub sums-wrong : (a : List ℕ) → answerIn a .kind ≢ 1 → (answerIn a .p ≢ 0) ⊎ (answerIn a .q ≢ 0) → canBeLogged a ≡ false
+sums-wrong a other wrong =
+    not-T-false (canBeLogged a)
+    (λ t.
+    ⊎-elim (λ found. other (found .0))
+    (λ none.
+    let sums = T-and (eqb (answerIn a .p) 0) (eqb (answerIn a .q) 0) (T-and (eqb (answerIn a .length) 0) (eqb (answerIn a .p) 0 && eqb (answerIn a .q) 0) none .1) in
+    ⊎-elim (λ n. n (eqb→eq (answerIn a .p) 0 (sums .0))) (λ n. n (eqb→eq (answerIn a .q) 0 (sums .1))) wrong)
+    (routes-of a t))
+
+-- "P and Q aren't tested against the cost"
+pub sums-untested : (s c : ℕ) (l k : RouteLength) → l .steps ≡ k .steps → canBeLogged (recordOf (Found s c l)) ≡ canBeLogged (recordOf (Found s c k))
+unfolding recordOf answerIn canBeLogged kindFits
+sums-untested s c l k e = rw e
 
 pub steps-few : (a : List ℕ) → T (canBeLogged a) → stepsIn a ≤ greatestLength
 steps-few a t = ⊎-elim (λ found. found .1) (λ none. omega arith) (steps-of a t)

@@ -21,6 +21,7 @@ use Rattle.search.specs.Search.{Searched}
 use Rattle.astar.specs.Astar.{Aimed}
 use Rattle.recordlayout.specs.Record.{recordFor, answerIn}
 use Rattle.recordlayout.proofs.Records.{number-back}
+use Rattle.logentries.proofs.Answers.{last-byte-wrong, sums-wrong, sums-untested}
 use Rattle.tender.specs.BothCells.{Bounded}
 use Rattle.tender.specs.ThirdCondition.{twiceSquare, Measured}
 use Rattle.tender.specs.Sums.{timesSums, SumsTell, TwoSums}
@@ -103,4 +104,7 @@ two-sums = record {
       rw (y .1) (record-tells (y .0) (y .2 .1));
   astar = λ f m start goal r a r′ x. of-astar x;
   astar-call = λ f m start goal r n r′ x. rw (x .numbers) (of-astar (x .aimed));
+  eight-zeros = λ a i h n. last-byte-wrong a i n;
+  no-sums = sums-wrong;
+  untested = sums-untested;
 }

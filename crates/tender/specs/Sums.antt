@@ -1,20 +1,26 @@
--- 02, R-6: the two sums in the answer. What P, Q and the cost tell by themselves, and so what can be read off a record's bytes with no map and no route at hand.
+-- 02, R-6: the two sums in the answer. What P, Q and the cost tell by themselves, and so what can be read off a record's bytes with no map and no route at hand;
+-- and which of them the log takes.
 use mathlib.Core.Path.{_≡_}
-use mathlib.Core.Logic.{_≢_}
+use mathlib.Core.Logic.{_≢_, _⊎_}
+use mathlib.Core.Bool.{false}
 use mathlib.Core.List.{List}
 use Prim.Native.Nat.{ℕ, _+_, _*_, _≤_, _<_}
 use lib.Dec.{T}
+use lib.ListN.{getD}
 use Rattle.floor.specs.declared.Floor.{Floor}
+use Rattle.floor.specs.declared.RouteLength.{RouteLength}
 use Rattle.floor.specs.Length.{Surd, surd, atMost, times, squared}
 use Rattle.floor.specs.Step.{greatestCost}
 use Rattle.answering.specs.declared.Answer.{Answer}
+use Rattle.answering.specs.declared.Answer.the-variants.{Found}
 use Rattle.answering.specs.declared.AnswerNumbers.{AnswerNumbers}
 use Rattle.answering.specs.Answers.{numbersOf}
 use Rattle.answering.specs.Rooms.{Rooms}
 use Rattle.answering.specs.Question.{Question}
 use Rattle.search.specs.Search.{Searched, Called}
 use Rattle.astar.specs.Astar.{Aimed, AimedCall}
-use Rattle.recordlayout.specs.Record.{answerIn}
+use Rattle.recordlayout.specs.Record.{recordOf, answerIn}
+use Rattle.logentries.specs.Entry.{canBeLogged}
 use Rattle.desk.specs.Desk.{wholeRecords, recordAt, IsAnswered}
 use Rattle.tender.specs.ThirdCondition.{twiceSquare}
 
@@ -41,3 +47,8 @@ pub record TwoSums : Type 0 where
       → (i : ℕ) → i < wholeRecords bytes → SumsTell (answerIn (recordAt i bytes′))
   pub astar : (f : Floor) (m : List ℕ) (start goal : ℕ) (r : Rooms) (a : Answer) (r′ : Rooms) → Aimed f m start goal r a r′ → SumsTell (numbersOf a)
   pub astar-call : (f : Floor) (m : List ℕ) (start goal : ℕ) (r : Rooms) (n : AnswerNumbers) (r′ : Rooms) → AimedCall f m start goal r n r′ → SumsTell n
+  -- of the log: "62 also if one of these eight isn't 0, or P or Q isn't 0 in an answer other than found"
+  pub eight-zeros : (answer : List ℕ) (i : ℕ) → i < 8 → getD answer (24 + i) 0 ≢ 0 → canBeLogged answer ≡ false
+  pub no-sums : (answer : List ℕ) → answerIn answer .kind ≢ 1 → (answerIn answer .p ≢ 0) ⊎ (answerIn answer .q ≢ 0) → canBeLogged answer ≡ false
+  -- "P and Q aren't tested against the cost": whether a found answer can be logged is the same for any
+  pub untested : (settled cost : ℕ) (l k : RouteLength) → l .steps ≡ k .steps → canBeLogged (recordOf (Found settled cost l)) ≡ canBeLogged (recordOf (Found settled cost k))
