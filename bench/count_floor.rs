@@ -12,7 +12,10 @@ use std::io::Write;
 
 fn main() {
     let words: Vec<String> = std::env::args().skip(1).collect();
-    let [name, side] = words.as_slice() else { panic!("usage: floor NAME SIDE") };
+    let (name, side) = match words.as_slice() {
+        [name, side] => (name, side),
+        _ => panic!("usage: floor NAME SIDE"),
+    };
     let kind = match name.as_str() {
         "empty" => Kind::Empty,
         "third-blocked" => Kind::ThirdBlocked,
