@@ -1,4 +1,4 @@
--- Which answers can be logged, test by test, in the order in which the code tries them.
+-- Which answers can be logged, test by test, in the order in which the code tries them; and R-6's words about them, from what an answer that can be logged has.
 use mathlib.Core.Path.{_≡_, refl, sym, _∙_, subst}
 use mathlib.Core.Logic.{_≢_, _⊎_, inl, inr, ⊎-elim}
 use mathlib.Core.Bool.{Bool, true, false, cond, not, _&&_}

@@ -213,7 +213,7 @@ module _ {f : Floor} {m : List ℕ} {start goal : ℕ} {r : Rooms} {a : Answer} 
   astar-found (passed p x) k = let w = astar-answers x p in (has-passed x p, starts x p, w .found-number (w .found .0 k))
 
   pub astar-way : Aimed f m start goal r a r′ → numbersOf a .kind ≡ 1
-      → FoundWay f m start goal (numbersOf a .number) (record { steps = numbersOf a .length; p = numbersOf a .p; q = numbersOf a .q }) (r′ .route)
+      → FoundWay f m start goal (numbersOf a) (r′ .route)
   astar-way (refused n p e b l) k = absurd (omega (arith, ap (λ (z : Answer). numbersOf z .kind) b))
   astar-way (passed p x) k =
       let w = astar-answers x p in

@@ -15,7 +15,6 @@ use Rattle.settling.specs.Answer.{Kind, Row}
 use Rattle.settling.proofs.Outcomes.{code, found-first, found-cost, stopped-floor}
 use Rattle.floor.specs.declared.Floor.{Floor}
 use Rattle.floor.specs.declared.Screen.the-variants.{Passed}
-use Rattle.floor.specs.declared.RouteLength.{RouteLength}
 use Rattle.floor.specs.Length.{surd, lengthOf, routeLength}
 use Rattle.floor.specs.Place.{cells}
 use Rattle.floor.specs.Step.{leastStep, greatestStep, graph}
@@ -23,7 +22,7 @@ use Rattle.floor.specs.Refusal.{screen, questionLines}
 use Rattle.floor.proofs.Laws.{lawful}
 use Rattle.floor.proofs.Questions.{question-passed, start-inside, goal-inside}
 use Rattle.answering.specs.declared.Answer.{Answer}
-use Rattle.answering.specs.declared.Answer.the-variants.{Found, Stopped}
+use Rattle.answering.specs.declared.AnswerNumbers.{AnswerNumbers}
 use Rattle.answering.specs.Answers.{rowOf, answered, answerBy, numbersOf}
 use Rattle.answering.specs.Rooms.{Rooms}
 use Rattle.answering.specs.Question.{Question}
@@ -44,11 +43,11 @@ zero-no-code Kind.found e = omega arith
 zero-no-code Kind.none e = omega arith
 zero-no-code Kind.stopped e = omega arith
 
--- of a found answer's cost, route length and route room: the first part of the room is the first least-cost route, at that cost and with that P and Q
-pub record FoundWay (f : Floor) (m : List ℕ) (start goal c : ℕ) (l : RouteLength) (room : List ℕ) : Type 0 where
-  pub first : First (graph f m) start goal (take (l .steps) room)
-  pub cost : costOf (graph f m) start (take (l .steps) room) ≡ c
-  pub sums : surd (l .p) (l .q) ≡ lengthOf f m start (take (l .steps) room)
+-- of a found answer's numbers and route room: the first part of the room is the first least-cost route, at that cost and with that P and Q
+pub record FoundWay (f : Floor) (m : List ℕ) (start goal : ℕ) (n : AnswerNumbers) (room : List ℕ) : Type 0 where
+  pub first : First (graph f m) start goal (take (n .length) room)
+  pub cost : costOf (graph f m) start (take (n .length) room) ≡ n .number
+  pub sums : surd (n .p) (n .q) ≡ lengthOf f m start (take (n .length) room)
 
 -- an answer that comes from a row, of either engine, from that start
 module _ (f : Floor) (m : List ℕ) (s : ℕ) where
@@ -130,33 +129,33 @@ module _ {f : Floor} {m : List ℕ} {q : Question} {r : Rooms} {a : Answer} {r�
     ends = goal-inside f m (q .start) (q .goal) asked
 
   module _ (p : screen (searchLines f m q r) ≡ Passed) where
-    found-by-table : (t c : ℕ) (l : RouteLength) → a ≡ Found t c l → FoundWay f m (q .start) (q .goal) c l (r′ .route)
-    found-by-table t c l e =
-        let w = from-row Kind.found (ap (λ (b : Answer). numbersOf b .kind) e) in
-        let b = sym e ∙ w .answer in
-        let n : l .steps ≡ length (given .route) = ap (λ (b : Answer). numbersOf b .length) b in
-        let way : take (l .steps) (r′ .route) ≡ given .route = rw (w .route, n) (take-append-seam (given .route) (drop (length (given .route)) (r .route))) in
+    found-by-table : numbersOf a .kind ≡ 1 → FoundWay f m (q .start) (q .goal) (numbersOf a) (r′ .route)
+    found-by-table e =
+        let w = from-row Kind.found e in
+        let b = ap numbersOf (w .answer) in
+        let n : numbersOf a .length ≡ length (given .route) = ap (λ (n : AnswerNumbers). n .length) b in
+        let way : take (numbersOf a .length) (r′ .route) ≡ given .route = rw (w .route, n) (take-append-seam (given .route) (drop (length (given .route)) (r .route))) in
         record {
           first = rw way (found-first (law p) (q .start) (starts p) (x .table) (x .right) (q .goal) (ends p) (q .limit) (w .kind));
           cost =
               rw way
-              (found-cost (law p) (q .start) (starts p) (x .table) (x .right) (q .goal) (ends p) (q .limit) (w .kind) ∙ sym (ap (λ (b : Answer). numbersOf b .number) b));
-          sums = rw way (ap (λ (b : Answer). surd (numbersOf b .p) (numbersOf b .q)) b);
+              (found-cost (law p) (q .start) (starts p) (x .table) (x .right) (q .goal) (ends p) (q .limit) (w .kind) ∙ sym (ap (λ (n : AnswerNumbers). n .number) b));
+          sums = rw way (ap (λ (n : AnswerNumbers). surd (n .p) (n .q)) b);
         }
 
-    stopped-by-table : (s c : ℕ) → a ≡ Stopped s c → (ds : List ℕ) → Route (graph f m) (q .start) (q .goal) ds → c ≤ costOf (graph f m) (q .start) ds
-    stopped-by-table s c e ds w =
-        let y = from-row Kind.stopped (ap (λ (b : Answer). numbersOf b .kind) e) in
-        rw (ap (λ (b : Answer). numbersOf b .number) (sym e ∙ y .answer))
+    stopped-by-table : numbersOf a .kind ≡ 3 → (ds : List ℕ) → Route (graph f m) (q .start) (q .goal) ds → numbersOf a .number ≤ costOf (graph f m) (q .start) ds
+    stopped-by-table e ds w =
+        let y = from-row Kind.stopped e in
+        rw (ap (λ (b : Answer). numbersOf b .number) (y .answer))
         (stopped-floor (law p) (q .start) (starts p) (x .table) (x .right) (q .goal) (ends p) (q .limit) (y .kind) ds w)
 
 module _ {f : Floor} {m : List ℕ} {q : Question} {r : Rooms} {a : Answer} {r′ : Rooms} where
-  pub found-route : Searched f m q r a r′ → (s c : ℕ) (l : RouteLength) → a ≡ Found s c l → FoundWay f m (q .start) (q .goal) c l (r′ .route)
-  found-route (refused n w h b k) s c l e = absurd (zero-no-code Kind.found (ap (λ (b : Answer). numbersOf b .kind) (sym b ∙ e)))
-  found-route (passed p x) s c l e = found-by-table x p s c l e
+  pub found-route : Searched f m q r a r′ → numbersOf a .kind ≡ 1 → FoundWay f m (q .start) (q .goal) (numbersOf a) (r′ .route)
+  found-route (refused n w h b k) e = absurd (zero-no-code Kind.found (sym (ap (λ (b : Answer). numbersOf b .kind) b) ∙ e))
+  found-route (passed p x) e = found-by-table x p e
 
   -- no route to the goal costs less than the floor
-  pub stopped-below : Searched f m q r a r′ → (s c : ℕ) → a ≡ Stopped s c → (ds : List ℕ) → Route (graph f m) (q .start) (q .goal) ds
-      → c ≤ costOf (graph f m) (q .start) ds
-  stopped-below (refused n w h b k) s c e ds y = absurd (zero-no-code Kind.stopped (ap (λ (b : Answer). numbersOf b .kind) (sym b ∙ e)))
-  stopped-below (passed p x) s c e ds y = stopped-by-table x p s c e ds y
+  pub stopped-below : Searched f m q r a r′ → numbersOf a .kind ≡ 3 → (ds : List ℕ) → Route (graph f m) (q .start) (q .goal) ds
+      → numbersOf a .number ≤ costOf (graph f m) (q .start) ds
+  stopped-below (refused n w h b k) e ds y = absurd (zero-no-code Kind.stopped (sym (ap (λ (b : Answer). numbersOf b .kind) b) ∙ e))
+  stopped-below (passed p x) e ds y = stopped-by-table x p e ds y

@@ -2,13 +2,13 @@
 use mathlib.Core.Path.{_≡_, sym, _∙_, ap, subst}
 use mathlib.Core.Logic.{_≢_}
 use mathlib.Core.List.{List}
-use Prim.Native.Nat.{ℕ, _+_, _*_, _≤_, _<_}
+use Prim.Native.Nat.{ℕ, _+_, _*_, _≤_}
 use native.Mathlib.Decide.{ℕ-discrete}
 use native.Mathlib.Omega.{arith}
 use lib.Dec.{T}
 use lib.ListN.{take}
 use Rattle.floor.specs.declared.Floor.{Floor}
-use Rattle.floor.specs.Length.{Surd, surd, atMost, times, squared, lengthOf}
+use Rattle.floor.specs.Length.{Surd, atMost, times, squared}
 use Rattle.floor.specs.Step.{greatestCost}
 use Rattle.floor.proofs.Lengths.{cost-parts}
 use Rattle.answering.specs.declared.Answer.{Answer}
@@ -24,10 +24,10 @@ use Rattle.recordlayout.proofs.Records.{number-back}
 use Rattle.logentries.proofs.Answers.{last-byte-wrong, sums-wrong, sums-untested}
 use Rattle.tender.specs.BothCells.{Bounded}
 use Rattle.tender.specs.ThirdCondition.{twiceSquare, Measured}
-use Rattle.tender.specs.Sums.{timesSums, SumsTell, TwoSums}
-use Rattle.tender.proofs.Rowed.{FoundWay}
+use Rattle.tender.specs.Sums.{SumsTell, TwoSums}
+use Rattle.tender.proofs.Rowed.{FoundWay, found-route}
 use Rattle.tender.proofs.BothCellsHold.{both-cells}
-use Rattle.tender.proofs.ThirdHolds.{lengthIn, way-of-search, third-condition}
+use Rattle.tender.proofs.ThirdHolds.{third-condition}
 use Rattle.tender.proofs.AstarTabled.{astar-way}
 use Rattle.tender.proofs.Records.{each-record}
 
@@ -38,7 +38,7 @@ none-summed (Found s c l) o = absurd (o (omega arith))
 none-summed (None s) o = (omega arith, omega arith)
 none-summed (Stopped s c) o = (omega arith, omega arith)
 
-module _ {f : Floor} {m : List ℕ} {start goal : ℕ} {n : AnswerNumbers} {room : List ℕ} (way : n .kind ≡ 1 → FoundWay f m start goal (n .number) (lengthIn n) room)
+module _ {f : Floor} {m : List ℕ} {start goal : ℕ} {n : AnswerNumbers} {room : List ℕ} (way : n .kind ≡ 1 → FoundWay f m start goal n room)
     (measured : Measured f m start goal n room) (bounded : Bounded n) (none : n .kind ≢ 1 → (n .p ≡ 0) × (n .q ≡ 0)) where
   cost-sums : n .kind ≡ 1 → n .number ≡ 70 * n .p + 99 * n .q
   cost-sums k =
@@ -63,7 +63,7 @@ module _ {f : Floor} {m : List ℕ} {start goal : ℕ} {n : AnswerNumbers} {room
 
 of-search : {f : Floor} {m : List ℕ} {q : Question} {r : Rooms} {a : Answer} {r′ : Rooms} → Searched f m q r a r′ → SumsTell (numbersOf a)
 of-search {f} {m} {q} {r} {a} {r′} x =
-    sums-tell (way-of-search x) (third-condition .search f m q r a r′ x) (both-cells .search f m q r a r′ x) (none-summed a)
+    sums-tell (found-route x) (third-condition .search f m q r a r′ x) (both-cells .search f m q r a r′ x) (none-summed a)
 
 of-astar : {f : Floor} {m : List ℕ} {start goal : ℕ} {r : Rooms} {a : Answer} {r′ : Rooms} → Aimed f m start goal r a r′ → SumsTell (numbersOf a)
 of-astar {f} {m} {start} {goal} {r} {a} {r′} x =

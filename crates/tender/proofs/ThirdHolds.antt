@@ -6,12 +6,10 @@ use native.Mathlib.Omega.{arith}
 use lib.ListN.{take, replicate}
 use Rattle.paths.specs.Route.{costOf, Route}
 use Rattle.floor.specs.declared.Floor.{Floor}
-use Rattle.floor.specs.declared.RouteLength.{RouteLength}
 use Rattle.floor.specs.Length.{surd, square, times, squared, stepLength, lengthOf}
 use Rattle.floor.specs.Step.{stepWeight, stepCost, target, graph}
 use Rattle.floor.proofs.Lengths.{cost-over-length, cost-under-length, floor-under-length, length-under-length}
 use Rattle.answering.specs.declared.Answer.{Answer}
-use Rattle.answering.specs.declared.Answer.the-variants.{Found, None, Stopped}
 use Rattle.answering.specs.declared.AnswerNumbers.{AnswerNumbers}
 use Rattle.answering.specs.Answers.{numbersOf}
 use Rattle.answering.specs.Rooms.{Rooms}
@@ -23,25 +21,9 @@ use Rattle.tender.proofs.Rowed.{FoundWay, found-route, stopped-below}
 use Rattle.tender.proofs.AstarTabled.{astar-way, astar-no-stop}
 use Rattle.tender.proofs.Records.{each-record}
 
--- an answer is found or stopped exactly by its kind
-abbrev pub lengthIn : AnswerNumbers → RouteLength
-lengthIn n = record { steps = n .length; p = n .p; q = n .q }
-
-found-is : (a : Answer) → numbersOf a .kind ≡ 1 → a ≡ Found (numbersOf a .settled) (numbersOf a .number) (lengthIn (numbersOf a))
-found-is (Answer.Refused n p) e = absurd (omega arith)
-found-is (Found s c l) e = refl
-found-is (None s) e = absurd (omega arith)
-found-is (Stopped s c) e = absurd (omega arith)
-
-stopped-is : (a : Answer) → numbersOf a .kind ≡ 3 → a ≡ Stopped (numbersOf a .settled) (numbersOf a .number)
-stopped-is (Answer.Refused n p) e = absurd (omega arith)
-stopped-is (Found s c l) e = absurd (omega arith)
-stopped-is (None s) e = absurd (omega arith)
-stopped-is (Stopped s c) e = refl
-
 -- of either engine: a found route costs least, and no route costs less than a floor
 module _ (f : Floor) (m : List ℕ) (start goal : ℕ) (n : AnswerNumbers) (room : List ℕ)
-    (way : n .kind ≡ 1 → FoundWay f m start goal (n .number) (lengthIn n) room)
+    (way : n .kind ≡ 1 → FoundWay f m start goal n room)
     (below : n .kind ≡ 3 → (ds : List ℕ) → Route (graph f m) start goal ds → n .number ≤ costOf (graph f m) start ds) where
   abbrev ds : List ℕ
   ds = take (n .length) room
@@ -55,17 +37,9 @@ module _ (f : Floor) (m : List ℕ) (start goal : ℕ) (n : AnswerNumbers) (room
     floor-below = λ e es w. floor-under-length f m start es (w .allowed) (n .number) (below e es w);
   }
 
--- the route that an answer was found with
-pub way-of-search : {f : Floor} {m : List ℕ} {q : Question} {r : Rooms} {a : Answer} {r′ : Rooms} → Searched f m q r a r′ → numbersOf a .kind ≡ 1
-    → FoundWay f m (q .start) (q .goal) (numbersOf a .number) (lengthIn (numbersOf a)) (r′ .route)
-way-of-search {a = a} x e = found-route x (numbersOf a .settled) (numbersOf a .number) (lengthIn (numbersOf a)) (found-is a e)
-
 of-search : {f : Floor} {m : List ℕ} {q : Question} {r : Rooms} {a : Answer} {r′ : Rooms} → Searched f m q r a r′
     → Measured f m (q .start) (q .goal) (numbersOf a) (r′ .route)
-of-search {f} {m} {q} {a = a} {r′ = r′} x =
-    measured f m (q .start) (q .goal) (numbersOf a) (r′ .route)
-    (way-of-search x)
-    (λ e. stopped-below x (numbersOf a .settled) (numbersOf a .number) (stopped-is a e))
+of-search {f} {m} {q} {a = a} {r′ = r′} x = measured f m (q .start) (q .goal) (numbersOf a) (r′ .route) (found-route x) (stopped-below x)
 
 of-astar : {f : Floor} {m : List ℕ} {start goal : ℕ} {r : Rooms} {a : Answer} {r′ : Rooms} → Aimed f m start goal r a r′
     → Measured f m start goal (numbersOf a) (r′ .route)

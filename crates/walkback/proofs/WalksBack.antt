@@ -1,4 +1,4 @@
--- The walk back on a floor: `last_step` takes the step that the walk over the graph takes, and the route is written backwards.
+-- The walk back on a floor: `last_step` takes the step that the walk over the graph takes, the route is written backwards, and what its steps weigh is summed.
 use mathlib.Core.Path.{_≡_, refl, sym, _∙_, ap, subst}
 use mathlib.Core.Logic.{_≢_}
 use mathlib.Core.List.{List, [], _∷_, _++_, append-assoc, reverse, reverse-reverse}

@@ -1,6 +1,4 @@
 -- A straight step's weight is its whole part and a diagonal one's its root part; neither sum wraps.
-use mathlib.Core.Path.{_≡_, sym, ap}
-use Prim.Native.Nat.{ℕ, _+_}
 use native.Mathlib.Nat.{add-zero}
 use borrow.Author.Needs.{needs}
 use Rattle.floor.proofs.Lengths.{step-straight, step-diagonal}

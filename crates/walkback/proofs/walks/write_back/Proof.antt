@@ -1,10 +1,10 @@
 -- The invariant: the walk back from the goal to `cell` has written its steps, and `length` is how long the route from there is. What is summed never exceeds
 -- the goal's cost less the cell's. The measure is the cell's cost.
 use mathlib.Core.Path.{refl, sym, _∙_, ap}
-use mathlib.Core.List.{List, [], _∷_, _++_, reverse, reverse-reverse}
+use mathlib.Core.List.{List, [], _++_, reverse, reverse-reverse}
 use Prim.Native.Nat.{ℕ, _<_}
 use native.Mathlib.Omega.{arith}
-use lib.ListN.{length, getD, set, drop, length-append, length-reverse, length-set}
+use lib.ListN.{length, getD, drop}
 use Rattle.settling.proofs.Walking.{walking-ends}
 use Rattle.floor.proofs.Passing.{facts}
 use Rattle.walkback.proofs.WalksBack.{WalksOn, Writing, walk-begins, has-costs, walk-goes, sums-fit, writes-on, walk-measured}
