@@ -75,7 +75,7 @@ screen-numbered (l ∷ ls) t =
     let a = T-and (ltb 0 (l .number)) (numbered ls) t in
     by-cond Numbered (l .given) _ _ (λ h. ltb→lt 0 (l .number) (a .0)) (λ h. screen-numbered ls (a .1))
 
--- after 1 and 2 a map has at most 256 × 256 cells, and a place among them fits
+-- after 1 and 2 a map has at most the cells of the greatest floor, and a place among them fits
 place-small : (f : Floor) (m : List ℕ) (ls : List Line) → highest ls ≤ length m
     → placeIn (screen (line 1 (not (hasSides f)) 0 ∷ line 2 (not (eqb (length m) (cells f))) 0 ∷ ls)) ≤ MARK
 place-small f m ls h =

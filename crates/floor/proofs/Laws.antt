@@ -220,7 +220,7 @@ module _ (f : Floor) (m : List ℕ) where
     pub least-cost-bound : (s v c : ℕ) → s < cells f → Least (graph f m) s v c → c ≤ greatestCost
     least-cost-bound s v c h l = omega (arith, least-cost-most lawful s h v c l, few-cells good)
 
--- the numbers of 02, R-3 and R-4
+-- the numbers of 02, R-3, R-4 and R-7
 least-step : leastStep ≡ 140
 least-step = refl
 
@@ -230,5 +230,5 @@ least-diagonal = refl
 greatest-step : greatestStep ≡ 1782
 greatest-step = refl
 
-greatest-cost : greatestCost ≡ 116783370
+greatest-cost : greatestCost ≡ 1868560650
 greatest-cost = refl

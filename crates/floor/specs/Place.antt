@@ -11,7 +11,7 @@ use Rattle.floor.specs.declared.Place.{Place}
 use Rattle.floor.specs.Direction.{rowOf, plusOne}
 
 abbrev pub greatestSide : ℕ
-greatestSide = 256
+greatestSide = 1024
 
 abbrev pub greatestWeight : ℕ
 greatestWeight = 9

@@ -5,8 +5,8 @@
 pub mod steps; // steps.rt: the step test
 pub mod neighbours; // neighbours.rt: what stands around a cell, and all its steps
 
-// 01: width and height are 1 to 256 each.
-pub const GREATEST_SIDE: usize = 256;
+// 01, as 02 R-7 has it: width and height are 1 to 1,024 each.
+pub const GREATEST_SIDE: usize = 1024;
 
 // 01: 0 blocked, 1 to 9 the weight of an open cell.
 pub const GREATEST_WEIGHT: u8 = 9;
