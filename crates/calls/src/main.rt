@@ -32,7 +32,8 @@
 //
 // Each reply is written before the next call is read. An unknown `what`, a room longer than the program's, a map room that has no place for two records where
 // they go there, more given than a room's length, and an input that ends inside a call end the program.
-mod wire; // wire.rt: numbers in bytes, rooms, replies
+mod replies; // replies.rt: how a reply goes out
+mod wire; // wire.rt: numbers in bytes, and rooms filled
 
 ghost use Prim.Native.Nat.{_≤_};
 use answering::AnswerNumbers;
@@ -55,25 +56,32 @@ use maptext::fradnumber_write_map;
 use mapuse::use_map;
 use recordlayout::RECORD_SIZE;
 use recordlayout::fields::record_at;
+use replies::begun;
+use replies::is_sent;
+use replies::send_bytes;
+use replies::send_numbers;
 use routelog::EntryNumbers;
 use routelog::EntryWrittenNumbers;
 use routelog::fradnumber_read_entry;
 use routelog::fradnumber_write_entry;
 use search::rooms::fradnumber_search;
-use wire::adler;
+use wire::PIECE;
 use wire::fill_bytes;
 use wire::fill_numbers;
 use wire::put_bytes;
-use wire::put_numbers;
+use wire::short;
 
-// The longest room of cells: the greatest floor, its text, and some more.
+// The longest room of cells on the stack that a process usually has, 8 MiB: a floor of 1,024 by 64, its text, and some more.
 const CELLS: usize = 66000;
+
+// The longest room of cells on a larger stack: the greatest floor, its text, and some more.
+const HALL: usize = 1050000;
 
 // How many numbers a reply begins with.
 const NUMBERS: usize = 8;
 
-// The longest reply: its numbers, the three rooms of bytes, and the rooms of numbers, of which the work room has twice the cells.
-const WIRE: usize = 4 * NUMBERS + 3 * CELLS + 4 * CELLS + 8 * CELLS;
+// What is lent to hold a piece of a room of numbers.
+const WIRE: usize = 4 * PIECE;
 
 // The head of a call, up to its rooms.
 struct Question {
@@ -144,14 +152,6 @@ fn read_room(most: usize) -> Room
 }
 
 // ---- answers as eight numbers
-
-// All that is counted here fits; what should not fit shows as the greatest number.
-fn short(n: u64) -> u32 {
-    if n < 4294967296 {
-        return n as u32;
-    }
-    4294967295
-}
 
 fn of_route(verdict: RouteVerdict) -> [u32; NUMBERS] {
     match verdict {
@@ -354,38 +354,6 @@ fn ask(
     }
 }
 
-// Puts the reply into the wire, and gives the place after it.
-fn put_reply(
-    numbers: [u32; NUMBERS],
-    map: &[u8],
-    costs: &[u32],
-    work: &[u32],
-    route: &[u8],
-    text: &[u8],
-    wire: &mut [u8],
-) -> usize {
-    let at_map = put_numbers(wire, 0, &numbers);
-    let at_costs = put_bytes(wire, at_map, map);
-    let at_work = put_numbers(wire, at_costs, costs);
-    let at_route = put_numbers(wire, at_work, work);
-    let at_text = put_bytes(wire, at_route, route);
-    put_bytes(wire, at_text, text)
-}
-
-// Writes what the wire holds up to an end. False if that cannot be written.
-fn write_reply(form: u32, wire: &[u8], end: usize) -> bool {
-    if wire.len() < end {
-        return false;
-    }
-    if form == 0 {
-        return io::write_all(STDOUT_FILENO, &wire[0..end]);
-    }
-    let two = [short(end as u64), adler(&wire[0..end])];
-    let mut digest = [0u8; 8];
-    put_numbers(&mut digest, 0, &two);
-    io::write_all(STDOUT_FILENO, &digest)
-}
-
 // False if there is nothing to reply, and if the reply cannot be written.
 fn reply(
     form: u32,
@@ -395,13 +363,17 @@ fn reply(
     work: &[u32],
     route: &[u8],
     text: &[u8],
-    wire: &mut [u8; WIRE],
+    wire: &mut [u8],
 ) -> bool {
     if numbers[0] == NO_ENTRY {
         return false;
     }
-    let end = put_reply(numbers, map, costs, work, route, text, wire);
-    write_reply(form, wire, end)
+    let sent = send_numbers(begun(form != 0), &numbers, wire);
+    let sent = send_bytes(sent, map);
+    let sent = send_numbers(sent, costs, wire);
+    let sent = send_numbers(sent, work, wire);
+    let sent = send_bytes(sent, route);
+    is_sent(send_bytes(sent, text))
 }
 
 // Fills the rooms, calls the entry and replies. False if the call cannot be answered.
@@ -413,7 +385,7 @@ fn answer_call(
     work: &mut [u32],
     route: &mut [u8],
     text: &mut [u8],
-    wire: &mut [u8; WIRE],
+    wire: &mut [u8],
 ) -> bool {
     let fine = fill_bytes(true, map, given.map);
     let fine = fill_numbers(fine, costs, given.costs, wire);
@@ -431,7 +403,7 @@ fn next_call(
     work: &mut [u32],
     route: &mut [u8],
     text: &mut [u8],
-    wire: &mut [u8; WIRE],
+    wire: &mut [u8],
 ) -> bool {
     let question = read_question();
     let map_room = read_room(map.len());
@@ -470,7 +442,7 @@ fn answer_calls(
     work: &mut [u32],
     route: &mut [u8],
     text: &mut [u8],
-    wire: &mut [u8; WIRE],
+    wire: &mut [u8],
 ) {
     let mut turns = u64::MAX;
     while turns > 0 && next_call(map, costs, work, route, text, wire) {
@@ -478,7 +450,7 @@ fn answer_calls(
     }
 }
 
-fn main() {
+fn answer_in_usual_rooms() {
     let mut map = [0u8; CELLS];
     let mut costs = [0u32; CELLS];
     let mut work = [0u32; 2 * CELLS];
@@ -493,4 +465,36 @@ fn main() {
         &mut text,
         &mut wire,
     );
+}
+
+// These rooms are longer than the usual stack, so they must not become part of another function's frame: the compiler puts a function that is called once in
+// line, and never one that calls itself. That is all that the call here is for. Where it is made, it answers all calls, and none are left after it.
+fn answer_in_hall_rooms(again: usize) {
+    if 0 < again {
+        answer_in_hall_rooms(again - 1);
+    }
+    let mut map = [0u8; HALL];
+    let mut costs = [0u32; HALL];
+    let mut work = [0u32; 2 * HALL];
+    let mut route = [0u8; HALL];
+    let mut text = [0u8; HALL];
+    let mut wire = [0u8; WIRE];
+    answer_calls(
+        &mut map,
+        &mut costs,
+        &mut work,
+        &mut route,
+        &mut text,
+        &mut wire,
+    );
+}
+
+// Started with an argument, the program has rooms for the greatest floor, and needs a stack that holds them (tools/start asks for one).
+fn main() {
+    let words = os::arg_count();
+    if words < 2 {
+        answer_in_usual_rooms();
+    } else {
+        answer_in_hall_rooms(words - 2);
+    }
 }

@@ -1,19 +1,37 @@
-// What goes over the wire: numbers of four bytes, the lowest first, and rooms that are filled from what is given and put into a reply.
-ghost use Prim.Native.Nat.{_<_};
+// What goes over the wire: numbers of four bytes, the lowest first, and rooms that are filled from what is given.
+ghost use Prim.Native.Nat.{_≤_, _<_};
 use libc::STDIN_FILENO;
 
-fn widened(byte: u8) -> u32
+pub(crate) fn widened(byte: u8) -> u32
     ensures { λ r. ⌜ r < 256 ⌝ }
 {
     byte as u32
 }
 
-// The number that entry `i` of a room repeats, where some are given.
-fn number_given(bytes: &[u8], given: usize, i: usize) -> u32 {
-    if given == 0 {
-        return 0;
+// All that is counted here fits; what should not fit shows as the greatest number.
+pub(crate) fn short(n: u64) -> u32 {
+    if n < 4294967296 {
+        return n as u32;
     }
-    let place = i % given;
+    4294967295
+}
+
+// Numbers go over the wire in pieces of at most so many, so that one short room of bytes serves rooms of any length.
+pub(crate) const PIECE: usize = 16384;
+
+// Where the next piece of a room ends.
+pub(crate) fn piece_end(at: usize, end: usize) -> usize
+    requires { ⌜ at < end ⌝ }
+    ensures { λ r. ⌜ (at < r) × (r ≤ end) ⌝ }
+{
+    if end - at <= PIECE {
+        return end;
+    }
+    at + PIECE
+}
+
+// The number at a place, counted in numbers.
+fn number_at(bytes: &[u8], place: usize) -> u32 {
     if bytes.len() / 4 <= place {
         return 0;
     }
@@ -48,29 +66,51 @@ pub(crate) fn fill_bytes(fine: bool, room: &mut [u8], given: usize) -> bool {
     true
 }
 
-// The same for a room of numbers; `bytes` is lent to hold what is read.
-pub(crate) fn fill_numbers(fine: bool, room: &mut [u32], given: usize, bytes: &mut [u8]) -> bool {
-    if !fine {
+// Reads as many numbers as the room holds. False if `bytes`, lent to hold what is read, is too short for them, and if the input ends before.
+fn read_numbers(room: &mut [u32], bytes: &mut [u8]) -> bool {
+    if bytes.len() / 4 < room.len() {
         return false;
     }
-    if given == 0 {
-        return true;
-    }
-    if room.len() < given {
-        return false;
-    }
-    if bytes.len() / 4 < given {
-        return false;
-    }
-    let size = 4 * given;
+    let size = 4 * room.len();
     if io::read_full(STDIN_FILENO, &mut bytes[0..size]) < size {
         return false;
     }
     let mut i = 0;
     while i < room.len() {
-        room[i] = number_given(bytes, given, i);
+        room[i] = number_at(bytes, i);
         i += 1;
     }
+    true
+}
+
+fn repeat_numbers(room: &mut [u32], given: usize) {
+    if given == 0 {
+        return;
+    }
+    let mut i = given;
+    while i < room.len() {
+        room[i] = room[i - given];
+        i += 1;
+    }
+}
+
+// The same as fill_bytes for a room of numbers; `bytes` is lent to hold a piece of what is read.
+pub(crate) fn fill_numbers(fine: bool, room: &mut [u32], given: usize, bytes: &mut [u8]) -> bool {
+    if !fine {
+        return false;
+    }
+    if room.len() < given {
+        return false;
+    }
+    let mut at = 0;
+    while at < given {
+        let end = piece_end(at, given);
+        if !read_numbers(&mut room[at..end], bytes) {
+            return false;
+        }
+        at = end;
+    }
+    repeat_numbers(room, given);
     true
 }
 
@@ -102,17 +142,4 @@ pub(crate) fn put_numbers(wire: &mut [u8], at: usize, room: &[u32]) -> usize {
         i += 1;
     }
     end
-}
-
-// Adler-32 of a reply, as Python's zlib has it: two sums modulo the greatest prime below 2 to the 16.
-pub(crate) fn adler(reply: &[u8]) -> u32 {
-    let mut low: u32 = 1;
-    let mut high: u32 = 0;
-    let mut i = 0;
-    while i < reply.len() {
-        low = (low + widened(reply[i])) % 65521;
-        high = (high + low) % 65521;
-        i += 1;
-    }
-    high * 65536 + low
 }

@@ -12,6 +12,7 @@ Inv-loop map₀ costs₀ work₀ route₀ text₀ wire₀ turns₀ map costs wor
     × (length work ≡ length work₀)
     × (length route ≡ length route₀)
     × (length text ≡ length text₀)
+    × (length wire ≡ length wire₀)
 
 abbrev μ-loop : tie.MeasureT-loop
 μ-loop map₀ costs₀ work₀ route₀ text₀ wire₀ turns₀ map costs work route text wire turns = turns
@@ -46,11 +47,11 @@ same-length-4 c = search needs
 same-length-5 : tie.Need-same-length-5 Inv-loop μ-loop
 same-length-5 c = search needs
 
-returns : tie.Need-returns Inv-loop μ-loop
-returns c = search needs
-
 same-length-6 : tie.Need-same-length-6 Inv-loop μ-loop
 same-length-6 c = search needs
+
+returns : tie.Need-returns Inv-loop μ-loop
+returns c = search needs
 
 same-length-7 : tie.Need-same-length-7 Inv-loop μ-loop
 same-length-7 c = search needs
@@ -63,6 +64,12 @@ same-length-9 c = search needs
 
 same-length-10 : tie.Need-same-length-10 Inv-loop μ-loop
 same-length-10 c = search needs
+
+same-length-11 : tie.Need-same-length-11 Inv-loop μ-loop
+same-length-11 c = search needs
+
+same-length-12 : tie.Need-same-length-12 Inv-loop μ-loop
+same-length-12 c = search needs
 
 returns-2 : tie.Need-returns-2 Inv-loop μ-loop
 returns-2 c = search needs
@@ -83,10 +90,12 @@ answer-calls-spec =
     same-length-3
     same-length-4
     same-length-5
-    returns
     same-length-6
+    returns
     same-length-7
     same-length-8
     same-length-9
     same-length-10
+    same-length-11
+    same-length-12
     returns-2)

@@ -1,16 +1,16 @@
--- A store never changes the length: that is the invariant. The measure is what is left of the room.
+-- The room and what is lent to hold a piece keep their lengths: that and where the next piece begins are the invariant. The measure is what is left of the given.
 use mathlib.Core.Path.{_≡_}
-use Prim.Native.Nat.{_-_}
+use Prim.Native.Nat.{_≤_, _-_}
 use lib.ListN.{length}
 use borrow.Author.Needs.{needs}
 use Rattle.calls.proofs.wire.fill_numbers.Statement.{statement}
 use Rattle.calls.proofs.wire.fill_numbers.Tie as tie
 
 abbrev Inv-loop : tie.InvT-loop
-Inv-loop fine room₀ given bytes size i₀ room i = length room ≡ length room₀
+Inv-loop fine room₀ given bytes₀ at₀ room bytes at = (length room ≡ length room₀) × (length bytes ≡ length bytes₀) × (at ≤ given)
 
 abbrev μ-loop : tie.MeasureT-loop
-μ-loop fine room₀ given bytes size i₀ room i = length room₀ - i
+μ-loop fine room₀ given bytes₀ at₀ room bytes at = given - at
 
 returns : tie.Need-returns Inv-loop μ-loop
 returns c = search needs
@@ -18,47 +18,35 @@ returns c = search needs
 returns-2 : tie.Need-returns-2 Inv-loop μ-loop
 returns-2 c = search needs
 
-returns-3 : tie.Need-returns-3 Inv-loop μ-loop
-returns-3 c = search needs
+loop-holds : tie.Need-loop-holds Inv-loop μ-loop
+loop-holds c = search needs
 
-returns-4 : tie.Need-returns-4 Inv-loop μ-loop
-returns-4 c = search needs
+piece-end-requires : tie.Need-piece-end-requires Inv-loop μ-loop
+piece-end-requires c κs = search needs
 
-mul-size : tie.Need-mul-size Inv-loop μ-loop
-mul-size c = search needs
+mul-read-numbers : tie.Need-mul-read-numbers Inv-loop μ-loop
+mul-read-numbers c = search needs
 
-sub-read-full : tie.Need-sub-read-full Inv-loop μ-loop
-sub-read-full c = search needs
+sub-read-numbers : tie.Need-sub-read-numbers Inv-loop μ-loop
+sub-read-numbers c = search needs
 
-part-read-full-start : tie.Need-part-read-full-start Inv-loop μ-loop
-part-read-full-start c = search needs
+part-read-numbers-start : tie.Need-part-read-numbers-start Inv-loop μ-loop
+part-read-numbers-start c = search needs
 
-part-read-full-end : tie.Need-part-read-full-end Inv-loop μ-loop
-part-read-full-end c = search needs
+part-read-numbers-end : tie.Need-part-read-numbers-end Inv-loop μ-loop
+part-read-numbers-end c = search needs
 
-read-full-requires : tie.Need-read-full-requires Inv-loop μ-loop
-read-full-requires c κs = search needs
+read-numbers-requires : tie.Need-read-numbers-requires Inv-loop μ-loop
+read-numbers-requires c κs = search needs
 
 same-length : tie.Need-same-length Inv-loop μ-loop
 same-length c = search needs
 
-returns-5 : tie.Need-returns-5 Inv-loop μ-loop
-returns-5 c = search needs
+same-length-2 : tie.Need-same-length-2 Inv-loop μ-loop
+same-length-2 c = search needs
 
-loop-holds : tie.Need-loop-holds Inv-loop μ-loop
-loop-holds c = search needs
-
-number-given-requires : tie.Need-number-given-requires Inv-loop μ-loop
-number-given-requires c κs = search needs
-
-mul-room : tie.Need-mul-room Inv-loop μ-loop
-mul-room c = search needs
-
-slice-write-room : tie.Need-slice-write-room Inv-loop μ-loop
-slice-write-room c = search needs
-
-add-i : tie.Need-add-i Inv-loop μ-loop
-add-i c = search needs
+returns-3 : tie.Need-returns-3 Inv-loop μ-loop
+returns-3 c = search needs
 
 loop-less : tie.Need-loop-less Inv-loop μ-loop
 loop-less c = search needs
@@ -66,14 +54,17 @@ loop-less c = search needs
 loop-again : tie.Need-loop-again Inv-loop μ-loop
 loop-again c = search needs
 
-same-length-2 : tie.Need-same-length-2 Inv-loop μ-loop
-same-length-2 c = search needs
+repeat-numbers-requires : tie.Need-repeat-numbers-requires Inv-loop μ-loop
+repeat-numbers-requires c κs = search needs
 
 same-length-3 : tie.Need-same-length-3 Inv-loop μ-loop
 same-length-3 c = search needs
 
-returns-6 : tie.Need-returns-6 Inv-loop μ-loop
-returns-6 c = search needs
+same-length-4 : tie.Need-same-length-4 Inv-loop μ-loop
+same-length-4 c = search needs
+
+returns-4 : tie.Need-returns-4 Inv-loop μ-loop
+returns-4 c = search needs
 
 pub fill-numbers-spec : {M : Type 1} → statement M
 fill-numbers-spec =
@@ -83,22 +74,19 @@ fill-numbers-spec =
     μ-loop
     returns
     returns-2
-    returns-3
-    returns-4
-    mul-size
-    sub-read-full
-    part-read-full-start
-    part-read-full-end
-    read-full-requires
-    same-length
-    returns-5
     loop-holds
-    number-given-requires
-    mul-room
-    slice-write-room
-    add-i
+    piece-end-requires
+    mul-read-numbers
+    sub-read-numbers
+    part-read-numbers-start
+    part-read-numbers-end
+    read-numbers-requires
+    same-length
+    same-length-2
+    returns-3
     loop-less
     loop-again
-    same-length-2
+    repeat-numbers-requires
     same-length-3
-    returns-6)
+    same-length-4
+    returns-4)

@@ -3,8 +3,8 @@ use mathlib.Core.Path.{sym}
 use Prim.Native.Nat.{ℕ}
 use lib.ListN.{length-replicate}
 use borrow.Author.Needs.{needs}
-use Rattle.calls.proofs.main.Statement.{statement}
-use Rattle.calls.proofs.main.Tie as tie
+use Rattle.calls.proofs.answer_in_usual_rooms.Statement.{statement}
+use Rattle.calls.proofs.answer_in_usual_rooms.Tie as tie
 
 slice-aggregate-answer-calls : tie.Need-slice-aggregate-answer-calls
 slice-aggregate-answer-calls c = sym (length-replicate {A = ℕ} 66000 0)
@@ -21,14 +21,17 @@ slice-aggregate-answer-calls-4 c = sym (length-replicate {A = ℕ} 66000 0)
 slice-aggregate-answer-calls-5 : tie.Need-slice-aggregate-answer-calls-5
 slice-aggregate-answer-calls-5 c = sym (length-replicate {A = ℕ} 66000 0)
 
+slice-aggregate-answer-calls-6 : tie.Need-slice-aggregate-answer-calls-6
+slice-aggregate-answer-calls-6 c = sym (length-replicate {A = ℕ} 65536 0)
+
 answer-calls-requires : tie.Need-answer-calls-requires
 answer-calls-requires c κs = search needs
 
 returns : tie.Need-returns
 returns c = search needs
 
-pub main-spec : {M : Type 1} → statement M
-main-spec =
+pub answer-in-usual-rooms-spec : {M : Type 1} → statement M
+answer-in-usual-rooms-spec =
     tie.close
     (tie.spec
     slice-aggregate-answer-calls
@@ -36,5 +39,6 @@ main-spec =
     slice-aggregate-answer-calls-3
     slice-aggregate-answer-calls-4
     slice-aggregate-answer-calls-5
+    slice-aggregate-answer-calls-6
     answer-calls-requires
     returns)

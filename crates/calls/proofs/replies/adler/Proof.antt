@@ -1,17 +1,15 @@
--- Both sums stay below the prime. The measure is what is left of the reply.
-use mathlib.Core.Path.{_≡_}
-use Prim.Native.Nat.{_-_}
+-- Both sums have sixteen bits. The measure is what is left of the piece.
+use Prim.Native.Nat.{_<_, _-_}
 use lib.ListN.{length}
 use borrow.Author.Needs.{needs}
-use Prim.Native.Nat.{_<_}
-use Rattle.calls.proofs.wire.adler.Statement.{statement}
-use Rattle.calls.proofs.wire.adler.Tie as tie
+use Rattle.calls.proofs.replies.adler.Statement.{statement}
+use Rattle.calls.proofs.replies.adler.Tie as tie
 
 abbrev Inv-loop : tie.InvT-loop
-Inv-loop reply low₀ high₀ i₀ low high i = (low < 65521) × (high < 65521)
+Inv-loop sum piece low₀ high₀ i₀ low high i = (low < 65536) × (high < 65536)
 
 abbrev μ-loop : tie.MeasureT-loop
-μ-loop reply low₀ high₀ i₀ low high i = length reply - i
+μ-loop sum piece low₀ high₀ i₀ low high i = length piece - i
 
 loop-holds : tie.Need-loop-holds Inv-loop μ-loop
 loop-holds c = search needs
