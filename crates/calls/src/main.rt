@@ -30,6 +30,9 @@
 //
 // A call from C hands on what the entry of its library answers, so that it stands here for both.
 //
+// The rooms lie on the stack. Started without an argument, the program has rooms that fit the stack which a process usually has; started with one, whatever it
+// says, it has rooms for the greatest floor, and needs a stack of more than 16 MB (tools/start asks for 64 MiB).
+//
 // Each reply is written before the next call is read. An unknown `what`, a room longer than the program's, a map room that has no place for two records where
 // they go there, more given than a room's length, and an input that ends inside a call end the program.
 mod replies; // replies.rt: how a reply goes out
@@ -71,7 +74,7 @@ use wire::fill_numbers;
 use wire::put_bytes;
 use wire::short;
 
-// The longest room of cells on the stack that a process usually has, 8 MiB: a floor of 1,024 by 64, its text, and some more.
+// The longest room of cells on the usual stack of 8 MiB: a floor of 1,024 by 64, its text, and some more. The work room has twice as many entries.
 const CELLS: usize = 66000;
 
 // The longest room of cells on a larger stack: the greatest floor, its text, and some more.
@@ -489,7 +492,6 @@ fn answer_in_hall_rooms(again: usize) {
     );
 }
 
-// Started with an argument, the program has rooms for the greatest floor, and needs a stack that holds them (tools/start asks for one).
 fn main() {
     let words = os::arg_count();
     if words < 2 {

@@ -71,11 +71,15 @@ of-lines f m n =
 pub map-facts : (f : Floor) (m : List ℕ) → screen (mapLines f m) ≡ Passed → MapFacts f m
 map-facts f m e = of-lines f m (none-given (mapLines f m) e)
 
+-- the converse of `sides`
+pub has-sides : (f : Floor) → Side (f .width) → Side (f .height) → hasSides f ≡ true
+unfolding hasSides isSide
+has-sides f w h =
+    rw (lt-ltb 0 (f .width) (w .positive), le-leb (f .width) greatestSide (w .top), lt-ltb 0 (f .height) (h .positive), le-leb (f .height) greatestSide (h .top))
+
 -- a map with these facts passes: the converse of `map-facts`
 sides-pass : (f : Floor) (m : List ℕ) → MapFacts f m → hasSides f ≡ true
-unfolding hasSides isSide
-sides-pass f m k =
-    rw (lt-ltb 0 (f .width) (k .wide), le-leb (f .width) greatestSide (k .wide-top), lt-ltb 0 (f .height) (k .high), le-leb (f .height) greatestSide (k .high-top))
+sides-pass f m k = has-sides f (record { positive = k .wide; top = k .wide-top }) (record { positive = k .high; top = k .high-top })
 
 none-above : (m : List ℕ) → ((v : ℕ) → getD m v 0 ≤ greatestWeight) → firstAbove m ≡ length m
 unfolding firstAbove

@@ -17,3 +17,4 @@ pub mod OneTable
 pub mod AloneHolds
 pub mod Logged
 pub mod SumsHold
+pub mod HallsHold

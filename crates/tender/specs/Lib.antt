@@ -10,3 +10,4 @@ pub mod BothCells
 pub mod TwoEngines
 pub mod RouteLog
 pub mod Sums
+pub mod Halls

@@ -52,6 +52,10 @@ few-digits : (n : ℕ) → 0 < n → n < 10000 → length (digits 4 n) ≤ 4
 few-digits n h k =
     omega (arith, four-lengths n h k, digit-length 1000 n, digit-length 100 n, digit-length 10 n, digit-length 1 n)
 
-pub short-line : (word : List ℕ) (n : ℕ) → length word ≤ greatestWord → 0 < n → n ≤ greatestSide → length (sideLine word n) ≤ 12
+-- the word, at most four digits, LF
+pub line-length : (word : List ℕ) (n : ℕ) → 0 < n → n ≤ greatestSide → length (sideLine word n) ≤ length word + 5
 unfolding sideLine
-short-line word n h p k = simp length-append (omega (arith, few-digits n p (omega arith)))
+line-length word n p k = simp length-append (omega (arith, few-digits n p (omega arith)))
+
+pub short-line : (word : List ℕ) (n : ℕ) → length word ≤ greatestWord → 0 < n → n ≤ greatestSide → length (sideLine word n) ≤ 12
+short-line word n h p k = omega (arith, line-length word n p k)
