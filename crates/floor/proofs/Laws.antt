@@ -1,4 +1,4 @@
--- The laws that callers cite: the floor is a lawful graph, a step can be taken back at its own cost, and the bounds 140, 1,782 and 116,783,370; from coordinates and the table.
+-- The laws that callers cite: the floor is a lawful graph, a step can be taken back at its own cost, and the bounds 140, 1,782 and 1,868,560,650; from coordinates and the table.
 use mathlib.Core.Path.{_≡_, refl, sym, _∙_, ap, subst}
 use mathlib.Core.Logic.{_≢_, ⊎-elim}
 use mathlib.Core.Bool.{_&&_, _||_, not}
