@@ -8,7 +8,7 @@
 
 #include "words.h"
 
-enum { MOST_CELLS = 256 * 256, LONGEST_TEXT = 65829 };
+enum { MOST_CELLS = FRADNUMBER_MOST_CELLS, LONGEST_TEXT = FRADNUMBER_LONGEST_TEXT };
 
 static uint8_t map[MOST_CELLS];
 static size_t map_length;
@@ -40,12 +40,12 @@ static int read_map_file(const char *path)
     return 1;
 }
 
-/* A word of at most 65536 characters; 0 at the end of the file. */
-enum { MOST_LETTERS = 65536 };
+/* A word of at most 1048576 characters, one more than the longest route has steps; 0 at the end of the file. */
+enum { MOST_LETTERS = 1048576 };
 
 static inline int word(FILE *file, char *text)
 {
-    return fscanf(file, "%65536s", text) == 1;
+    return fscanf(file, "%1048576s", text) == 1;
 }
 
 static inline int number(FILE *file, char *text, uint32_t *to)

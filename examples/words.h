@@ -14,7 +14,7 @@ static const char *in_words(uint64_t number)
 {
     switch (number) {
     case FRADNUMBER_HOLDS: return "holds";
-    case FRADNUMBER_BAD_SIDE: return "a side is 0 or above 256";
+    case FRADNUMBER_BAD_SIDE: return "a side is 0 or above 1024";
     case FRADNUMBER_BAD_LENGTH: return "the map has another length than width times height";
     case FRADNUMBER_BAD_WEIGHT: return "a weight is above 9";
     case FRADNUMBER_BAD_WAYS: return "ways is neither 4 nor 8";
@@ -28,8 +28,8 @@ static const char *in_words(uint64_t number)
     case FRADNUMBER_ROUTE_TOO_LONG: return "the route has as many steps as there are cells, or more";
     case FRADNUMBER_ZERO_LIMIT: return "the limit is 0, and must be at least 1";
     case FRADNUMBER_BAD_TYPE_LINE: return "the first line is not `type octile`";
-    case FRADNUMBER_BAD_HEIGHT_LINE: return "the second line is not `height` and a number from 1 to 256";
-    case FRADNUMBER_BAD_WIDTH_LINE: return "the third line is not `width` and a number from 1 to 256";
+    case FRADNUMBER_BAD_HEIGHT_LINE: return "the second line is not `height` and a number from 1 to 1024";
+    case FRADNUMBER_BAD_WIDTH_LINE: return "the third line is not `width` and a number from 1 to 1024";
     case FRADNUMBER_BAD_MAP_LINE: return "the fourth line is not `map`";
     case FRADNUMBER_NO_CELL: return "no cell character where a cell is due";
     case FRADNUMBER_NO_LINE_END: return "another byte than LF after a full row";

@@ -24,7 +24,15 @@ extern "C" {
  * be changed for, the minor one with calls, fields at a struct's end or numbers that are new, the patch with all else. It
  * changes here and nowhere else; docs/C.md says what each version brought.
  */
-#define FRADNUMBER_VERSION 30000
+#define FRADNUMBER_VERSION 40000
+
+/*
+ * The greatest width and height, how many cells a floor of both has, and how many bytes its text. Rooms of as many entries are
+ * enough for any floor; the work room needs twice the cells.
+ */
+#define FRADNUMBER_GREATEST_SIDE 1024
+#define FRADNUMBER_MOST_CELLS 1048576
+#define FRADNUMBER_LONGEST_TEXT 1049639
 
 /*
  * What is wrong: 0, a refusal (1 to 30, and of the route log 61 to 64), a cost table that is not right (40), or a fault in a
@@ -32,7 +40,7 @@ extern "C" {
  */
 enum fradnumber_number {
     FRADNUMBER_HOLDS = 0,              /* nothing: the claim holds, the table is right, what was asked was read or written */
-    FRADNUMBER_BAD_SIDE = 1,           /* width or height is 0 or above 256 */
+    FRADNUMBER_BAD_SIDE = 1,           /* width or height is 0 or above 1024 */
     FRADNUMBER_BAD_LENGTH = 2,         /* the map's length is not width times height */
     FRADNUMBER_BAD_WEIGHT = 3,         /* a map byte is above 9; place: the lowest such cell */
     FRADNUMBER_BAD_WAYS = 4,           /* ways is neither 4 nor 8 */
@@ -46,8 +54,8 @@ enum fradnumber_number {
     FRADNUMBER_ROUTE_TOO_LONG = 12,    /* the route is longer than width times height, less 1 */
     FRADNUMBER_ZERO_LIMIT = 15,        /* the limit is 0, with which no cell can be settled */
     FRADNUMBER_BAD_TYPE_LINE = 21,     /* the first line is not `type octile`; place: its start, as for 22 to 24 */
-    FRADNUMBER_BAD_HEIGHT_LINE = 22,   /* the second line is not `height` and a number from 1 to 256 */
-    FRADNUMBER_BAD_WIDTH_LINE = 23,    /* the third line is not `width` and a number from 1 to 256 */
+    FRADNUMBER_BAD_HEIGHT_LINE = 22,   /* the second line is not `height` and a number from 1 to 1024 */
+    FRADNUMBER_BAD_WIDTH_LINE = 23,    /* the third line is not `width` and a number from 1 to 1024 */
     FRADNUMBER_BAD_MAP_LINE = 24,      /* the fourth line is not `map` */
     FRADNUMBER_NO_CELL = 25,           /* no cell character where a cell is due; place: the byte's offset */
     FRADNUMBER_NO_LINE_END = 26,       /* another byte than LF after a full row; place: the byte's offset */
@@ -165,8 +173,8 @@ struct fradnumber_answer fradnumber_astar(uint32_t width, uint32_t height, uint3
 struct fradnumber_read {
     uint64_t refusal; /* enum fradnumber_number, 0 if the text is a map */
     uint64_t place;   /* of the refusal */
-    uint64_t width;   /* 1 to 256, 0 if refused */
-    uint64_t height;  /* 1 to 256, 0 if refused */
+    uint64_t width;   /* 1 to 1024, 0 if refused */
+    uint64_t height;  /* 1 to 1024, 0 if refused */
     uint64_t ways;    /* always 8, 0 if refused */
 };
 
@@ -180,7 +188,10 @@ struct fradnumber_read {
 struct fradnumber_read fradnumber_read_map(const uint8_t *text, size_t text_length,
                                            uint8_t *cells, size_t cells_length);
 
-/* What fradnumber_read_map would answer for a cell room of that many bytes; nothing is stored. 65536 are always enough. */
+/*
+ * What fradnumber_read_map would answer for a cell room of that many bytes; nothing is stored. FRADNUMBER_MOST_CELLS bytes are
+ * always enough.
+ */
 struct fradnumber_read fradnumber_judge_map(const uint8_t *text, size_t text_length, size_t cells_length);
 
 struct fradnumber_written {
@@ -191,7 +202,7 @@ struct fradnumber_written {
 
 /*
  * Writes a map as text, with `@` for blocked cells, `.` for weight 1, and `2` to `9`. No byte follows the last row's LF: the
- * rest of the text room is as it was, and all of it is if the map is refused. A text has at most 65829 bytes.
+ * rest of the text room is as it was, and all of it is if the map is refused. FRADNUMBER_LONGEST_TEXT bytes are always enough.
  */
 struct fradnumber_written fradnumber_write_map(uint32_t width, uint32_t height,
                                                const uint8_t *map, size_t map_length,
