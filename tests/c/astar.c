@@ -118,6 +118,19 @@ static void refusals(void)
     expect_rooms("refusals", 0, 0, route, 0);
 }
 
+/* Sides of 1,024 are taken, 1,025 are refused, in a row and in a column. */
+static void sides(void)
+{
+    static uint32_t long_costs[1025], long_work[2050];
+    static uint8_t row[1025], long_route[1025];
+    uint32_t i;
+    for (i = 0; i < 1025; i++) row[i] = 1;
+    expect_found("width 1024", fradnumber_astar(1024, 1, 8, row, 1024, 0, 1023, long_costs, 1024, long_work, 2048, long_route, 1024), 1024, 143220, 1023, 2046, 0);
+    expect_found("height 1024", fradnumber_astar(1, 1024, 8, row, 1024, 0, 1023, long_costs, 1024, long_work, 2048, long_route, 1024), 1024, 143220, 1023, 2046, 0);
+    expect_refused("width 1025", fradnumber_astar(1025, 1, 8, row, 1025, 0, 1024, long_costs, 1025, long_work, 2050, long_route, 1025), 1, 0);
+    expect_refused("height 1025", fradnumber_astar(1, 1025, 8, row, 1025, 0, 1024, long_costs, 1025, long_work, 2050, long_route, 1025), 1, 0);
+}
+
 int main(void)
 {
     found();
@@ -127,5 +140,6 @@ int main(void)
     ends();
     least_rooms();
     refusals();
+    sides();
     return end_of_test("astar");
 }

@@ -14,12 +14,14 @@ static uint64_t on_a(uint32_t ways, uint32_t start, uint32_t goal, uint32_t cost
 static void refusals(void)
 {
     static const uint8_t heavy[4] = {1, 9, 10, 200}, barred[4] = {0, 1, 1, 0}, steps[6] = {4, 2, 2, 0, 4, 0};
-    static uint8_t wide[257];
+    static uint8_t wide[1025];
     uint32_t i;
-    for (i = 0; i < 257; i++) wide[i] = 1;
+    for (i = 0; i < 1025; i++) wide[i] = 1;
     expect_claim("width 0", fradnumber_check_route(0, 2, 8, a, 6, 0, 2, 0, 0, 0), 1, 0);
-    expect_claim("height 257", fradnumber_check_route(1, 257, 8, wide, 257, 0, 0, 0, 0, 0), 1, 0);
-    expect_claim("height 256", fradnumber_check_route(1, 256, 8, wide, 256, 0, 0, 0, 0, 0), 0, 0);
+    expect_claim("height 1025", fradnumber_check_route(1, 1025, 8, wide, 1025, 0, 0, 0, 0, 0), 1, 0);
+    expect_claim("width 1025", fradnumber_check_route(1025, 1, 8, wide, 1025, 0, 0, 0, 0, 0), 1, 0);
+    expect_claim("height 1024", fradnumber_check_route(1, 1024, 8, wide, 1024, 0, 0, 0, 0, 0), 0, 0);
+    expect_claim("width 1024", fradnumber_check_route(1024, 1, 8, wide, 1024, 0, 0, 0, 0, 0), 0, 0);
     expect_claim("width 2^32 - 1", fradnumber_check_route(4294967295u, 4294967295u, 8, a, 6, 0, 2, 0, 0, 0), 1, 0);
     expect_claim("a map too short", fradnumber_check_route(3, 2, 8, a, 5, 0, 2, 0, 0, 0), 2, 0);
     expect_claim("no map", fradnumber_check_route(1, 1, 8, 0, 0, 0, 0, 0, 0, 0), 2, 0);
@@ -67,23 +69,25 @@ static void claims(void)
     expect_claim("another cost", on_a(8, 0, 2, 559, route, 4), 46, 4);
 }
 
-/* Every cell of 256 by 256 cells of weight 9, row by row and back: 65,535 straight steps. */
+/* Every cell of 1,024 by 1,024 cells of weight 9, row by row and back: 1,048,575 straight steps. Then to and fro on a diagonal. */
 static void longest(void)
 {
-    static uint8_t map[65536], route[65536];
+    enum { SIDE = 1024, CELLS = SIDE * SIDE, LAST = CELLS - 1, SOUTH_WEST = CELLS - SIDE };
+    static uint8_t map[CELLS], route[CELLS];
+    const uint32_t straight = 1321204500u, diagonal = 1868560650u; /* 1,048,575 times 70 and times 99, times 18 */
     uint32_t row, n = 0, i;
-    for (i = 0; i < 65536; i++) map[i] = 9;
-    for (row = 0; row < 256; row++) {
-        for (i = 0; i < 255; i++) route[n++] = row % 2 == 0 ? 2 : 6;
+    for (i = 0; i < CELLS; i++) map[i] = 9;
+    for (row = 0; row < SIDE; row++) {
+        for (i = 0; i < SIDE - 1; i++) route[n++] = row % 2 == 0 ? 2 : 6;
         route[n++] = 4;
     }
-    expect_claim("the longest route", fradnumber_check_route(256, 256, 8, map, 65536, 0, 65280, 82574100, route, 65535), 0, 82574100);
-    expect_claim("one step more", fradnumber_check_route(256, 256, 8, map, 65536, 0, 65280, 82574100, route, 65536), 12, 0);
-    route[65534] = 7;
-    expect_claim("its last step", fradnumber_check_route(256, 256, 4, map, 65536, 0, 65280, 82574100, route, 65535), 41, 65534);
-    for (i = 0; i < 65535; i++) route[i] = i % 2 == 0 ? 3 : 7;
-    expect_claim("the greatest cost", fradnumber_check_route(256, 256, 8, map, 65536, 0, 257, 116783370, route, 65535), 0, 116783370);
-    expect_claim("one more than it", fradnumber_check_route(256, 256, 8, map, 65536, 0, 257, 116783371, route, 65535), 46, 65535);
+    expect_claim("the longest route", fradnumber_check_route(SIDE, SIDE, 8, map, CELLS, 0, SOUTH_WEST, straight, route, LAST), 0, straight);
+    expect_claim("one step more", fradnumber_check_route(SIDE, SIDE, 8, map, CELLS, 0, SOUTH_WEST, straight, route, CELLS), 12, 0);
+    route[LAST - 1] = 7;
+    expect_claim("its last step", fradnumber_check_route(SIDE, SIDE, 4, map, CELLS, 0, SOUTH_WEST, straight, route, LAST), 41, LAST - 1);
+    for (i = 0; i < LAST; i++) route[i] = i % 2 == 0 ? 3 : 7;
+    expect_claim("the greatest cost", fradnumber_check_route(SIDE, SIDE, 8, map, CELLS, 0, SIDE + 1, diagonal, route, LAST), 0, diagonal);
+    expect_claim("one more than it", fradnumber_check_route(SIDE, SIDE, 8, map, CELLS, 0, SIDE + 1, diagonal + 1, route, LAST), 46, LAST);
 }
 
 int main(void)

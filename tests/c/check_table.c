@@ -17,16 +17,18 @@ static uint64_t on_a(uint32_t ways, uint32_t start, const uint32_t *costs, size_
 static void refusals(void)
 {
     static const uint8_t heavy[2] = {1, 10};
-    static uint8_t wide[257];
-    static uint32_t steps[257];
+    static uint8_t wide[1025];
+    static uint32_t steps[1025];
     uint32_t i;
-    for (i = 0; i < 257; i++) {
+    for (i = 0; i < 1025; i++) {
         wide[i] = 1;
         steps[i] = 140 * i;
     }
     expect_claim("width 0", fradnumber_check_table(0, 2, 8, a, 6, 0, right, 6), FRADNUMBER_BAD_SIDE, 0);
-    expect_claim("height 257", fradnumber_check_table(1, 257, 8, wide, 257, 0, steps, 257), FRADNUMBER_BAD_SIDE, 0);
-    expect_claim("height 256", fradnumber_check_table(1, 256, 8, wide, 256, 0, steps, 256), FRADNUMBER_HOLDS, 0);
+    expect_claim("height 1025", fradnumber_check_table(1, 1025, 8, wide, 1025, 0, steps, 1025), FRADNUMBER_BAD_SIDE, 0);
+    expect_claim("width 1025", fradnumber_check_table(1025, 1, 8, wide, 1025, 0, steps, 1025), FRADNUMBER_BAD_SIDE, 0);
+    expect_claim("height 1024", fradnumber_check_table(1, 1024, 8, wide, 1024, 0, steps, 1024), FRADNUMBER_HOLDS, 0);
+    expect_claim("width 1024", fradnumber_check_table(1024, 1, 8, wide, 1024, 0, steps, 1024), FRADNUMBER_HOLDS, 0);
     expect_claim("a map too short", fradnumber_check_table(3, 2, 8, a, 5, 0, right, 6), FRADNUMBER_BAD_LENGTH, 0);
     expect_claim("no map", fradnumber_check_table(1, 1, 8, 0, 0, 0, 0, 0), FRADNUMBER_BAD_LENGTH, 0);
     expect_claim("a weight of 10", fradnumber_check_table(2, 1, 8, heavy, 2, 0, right, 6), FRADNUMBER_BAD_WEIGHT, 1);

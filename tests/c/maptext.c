@@ -3,7 +3,7 @@
  */
 #include "expect.h"
 
-enum { ROOM = 64, OLD = 77, LONGEST = 65829, MOST = 65536 };
+enum { ROOM = 64, OLD = 77, SIDE = 1024, MOST = SIDE * SIDE, LONGEST = 1049639 };
 
 static uint8_t cells[ROOM], room[ROOM];
 
@@ -78,13 +78,14 @@ static void header_refusals(void)
     refused("type octilE\n", 12, ROOM, FRADNUMBER_BAD_TYPE_LINE, 0);
     refused(of_a, 12, ROOM, FRADNUMBER_BAD_HEIGHT_LINE, 12);
     refused("type octile\nheight 0\n", 21, ROOM, FRADNUMBER_BAD_HEIGHT_LINE, 12);
-    refused("type octile\nheight 257\nwidth 1\nmap\n", 35, ROOM, FRADNUMBER_BAD_HEIGHT_LINE, 12);
+    refused("type octile\nheight 1025\nwidth 1\nmap\n", 36, ROOM, FRADNUMBER_BAD_HEIGHT_LINE, 12);
     refused(of_a, 21, ROOM, FRADNUMBER_BAD_WIDTH_LINE, 21);
-    refused("type octile\nheight 2\nwidth 257\nmap\n", 35, ROOM, FRADNUMBER_BAD_WIDTH_LINE, 21);
+    refused("type octile\nheight 2\nwidth 1025\nmap\n", 36, ROOM, FRADNUMBER_BAD_WIDTH_LINE, 21);
     refused("type octile\nheight 2\nwidth 03\nmap\n", 34, ROOM, FRADNUMBER_BAD_WIDTH_LINE, 21);
     refused("type octile\nheight 2\nwidth 4294967299\nmap\n", 42, ROOM, FRADNUMBER_BAD_WIDTH_LINE, 21);
     refused("type octile\nheight 2\nwidth 3\nmaps\n", 34, ROOM, FRADNUMBER_BAD_MAP_LINE, 29);
-    refused("type octile\nheight 256\nwidth 1\nmap\n", 35, 255, FRADNUMBER_SHORT_CELLS, 0);
+    refused("type octile\nheight 1024\nwidth 1\nmap\n", 36, 1023, FRADNUMBER_SHORT_CELLS, 0);
+    refused("type octile\nheight 1\nwidth 1024\nmap\n", 36, 1023, FRADNUMBER_SHORT_CELLS, 0);
     refused(of_a, 41, 5, FRADNUMBER_SHORT_CELLS, 0);
     refused("type octile\nheight 2\nwidth 3\nmap\n.S.\n...\n", 41, 5, FRADNUMBER_SHORT_CELLS, 0);
 }
@@ -110,7 +111,10 @@ static void writing(void)
     static const uint8_t heavy[6] = {1, 1, 9, 10, 1, 11};
     clear(room);
     expect_true("width 0", is_written(fradnumber_write_map(0, 2, a, 6, room, ROOM), FRADNUMBER_BAD_SIDE, 0, 0));
-    expect_true("height 257", is_written(fradnumber_write_map(3, 257, a, 6, room, ROOM), FRADNUMBER_BAD_SIDE, 0, 0));
+    expect_true("height 1025", is_written(fradnumber_write_map(3, 1025, a, 6, room, ROOM), FRADNUMBER_BAD_SIDE, 0, 0));
+    expect_true("width 1025", is_written(fradnumber_write_map(1025, 2, a, 6, room, ROOM), FRADNUMBER_BAD_SIDE, 0, 0));
+    expect_true("height 1024", is_written(fradnumber_write_map(3, 1024, a, 6, room, ROOM), FRADNUMBER_BAD_LENGTH, 0, 0));
+    expect_true("width 1024", is_written(fradnumber_write_map(1024, 2, a, 6, room, ROOM), FRADNUMBER_BAD_LENGTH, 0, 0));
     expect_true("height 2^32 - 1", is_written(fradnumber_write_map(3, 4294967295u, a, 6, room, ROOM), FRADNUMBER_BAD_SIDE, 0, 0));
     expect_true("a map too short", is_written(fradnumber_write_map(3, 2, a, 5, room, ROOM), FRADNUMBER_BAD_LENGTH, 0, 0));
     expect_true("a weight of 10", is_written(fradnumber_write_map(3, 2, heavy, 6, room, ROOM), FRADNUMBER_BAD_WEIGHT, 3, 0));
@@ -121,6 +125,9 @@ static void writing(void)
     expect_true("the text of case a", same(room, (const uint8_t *)of_a, 41) && is_old(room, 41));
 }
 
+/* The sizes that the header names are those of the longest text. A number that differs does not compile. */
+typedef char sizes_named[FRADNUMBER_GREATEST_SIDE == SIDE && FRADNUMBER_MOST_CELLS == MOST && FRADNUMBER_LONGEST_TEXT == LONGEST ? 1 : -1];
+
 /* The longest text there is, written, read back and written again. */
 static void longest(void)
 {
@@ -128,10 +135,10 @@ static void longest(void)
     struct fradnumber_read read;
     size_t i;
     for (i = 0; i < MOST; i++) map[i] = (uint8_t)(i % 10);
-    expect_true("the longest text", is_written(fradnumber_write_map(256, 256, map, MOST, text, LONGEST), 0, 0, LONGEST));
-    expect_true("a byte less of room", is_written(fradnumber_write_map(256, 256, map, MOST, text, LONGEST - 1), FRADNUMBER_SHORT_TEXT, 0, 0));
+    expect_true("the longest text", is_written(fradnumber_write_map(SIDE, SIDE, map, MOST, text, LONGEST), 0, 0, LONGEST));
+    expect_true("a byte less of room", is_written(fradnumber_write_map(SIDE, SIDE, map, MOST, text, LONGEST - 1), FRADNUMBER_SHORT_TEXT, 0, 0));
     read = fradnumber_read_map(text, LONGEST, back, MOST);
-    expect_true("the longest text read", is_read(read, 0, 0, 256, 256) && same(map, back, MOST));
+    expect_true("the longest text read", is_read(read, 0, 0, SIDE, SIDE) && same(map, back, MOST));
     expect_true("a cell less of room", is_read(fradnumber_judge_map(text, LONGEST, MOST - 1), FRADNUMBER_SHORT_CELLS, 0, 0, 0));
     expect_true("and written again", is_written(fradnumber_write_map((uint32_t)read.width, (uint32_t)read.height, back, MOST, again, LONGEST), 0, 0, LONGEST)
                                          && same(text, again, LONGEST));

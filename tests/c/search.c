@@ -119,6 +119,19 @@ static void refusals(uint32_t limit)
     if (wrong != before) printf("that was with limit %lu\n", (unsigned long)limit);
 }
 
+/* Sides of 1,024 are taken, 1,025 are refused, in a row and in a column. */
+static void sides(void)
+{
+    static uint32_t long_costs[1025], long_work[2050];
+    static uint8_t row[1025], long_route[1025];
+    uint32_t i;
+    for (i = 0; i < 1025; i++) row[i] = 1;
+    expect_found("width 1024", fradnumber_search(1024, 1, 8, row, 1024, 0, 1023, 1024, long_costs, 1024, long_work, 2048, long_route, 1024), 1024, 143220, 1023, 2046, 0);
+    expect_found("height 1024", fradnumber_search(1, 1024, 8, row, 1024, 0, 1023, 1024, long_costs, 1024, long_work, 2048, long_route, 1024), 1024, 143220, 1023, 2046, 0);
+    expect_refused("width 1025", fradnumber_search(1025, 1, 8, row, 1025, 0, 1024, 1024, long_costs, 1025, long_work, 2050, long_route, 1025), 1, 0);
+    expect_refused("height 1025", fradnumber_search(1, 1025, 8, row, 1025, 0, 1024, 1024, long_costs, 1025, long_work, 2050, long_route, 1025), 1, 0);
+}
+
 int main(void)
 {
     answers();
@@ -129,5 +142,6 @@ int main(void)
     limit_zero();
     refusals(5);
     refusals(0);
+    sides();
     return end_of_test("search");
 }
