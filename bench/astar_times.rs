@@ -2,7 +2,7 @@
 
 use crate::floors::{Goal, Kind, ASTAR_KINDS, GOALS};
 use crate::question::{Answer, Planner, Rooms};
-use crate::{ordinary_astar, ours, time_call, RUNS, SIDES, WARM_UPS};
+use crate::{ordinary_astar, ours, print_growth, print_growth_head, runs_on, time_call, SIDES, WARM_UPS};
 use std::time::Duration;
 
 /// What is timed, in this order.
@@ -17,6 +17,13 @@ struct Timed {
     answers: [Answer; 3],
 }
 
+impl Timed {
+    /// The time in ns of one of the planners for each cell that it settled.
+    fn per_cell(&self, planner: usize) -> f64 {
+        self.times[planner].as_secs_f64() * 1e9 / self.answers[planner].settled as f64
+    }
+}
+
 pub fn print() {
     println!("\nA*: ours, the ordinary one, and our plain search for the same goal with the limit at the cell count\n");
     println!(
@@ -24,12 +31,23 @@ pub fn print() {
          ours ns/cell | ordinary ns/cell | search ns/cell |"
     );
     println!("|---|---|---|---|---|---|---|---|---|---|---|---|---|");
+    let mut far = Vec::new();
     for kind in ASTAR_KINDS {
         for goal in GOALS {
             for side in SIDES {
-                print_row(&time_question(kind, goal, side));
+                let timed = time_question(kind, goal, side);
+                print_row(&timed);
+                if goal == Goal::Far {
+                    far.push(timed);
+                }
             }
         }
+    }
+    println!("\nns per settled cell, by side, to the far goal\n");
+    print_growth_head(&["ours", "ordinary", "search"]);
+    for of_kind in far.chunks(SIDES.len()) {
+        let of = |planner| of_kind.iter().map(|t| t.per_cell(planner)).collect();
+        print_growth(of_kind[0].kind.name(), &[of(0), of(1), of(2)]);
     }
 }
 
@@ -37,7 +55,7 @@ fn time_question(kind: Kind, goal: Goal, side: usize) -> Timed {
     let question = kind.question_to(side, goal);
     let mut rooms = [Rooms::for_cells(side * side), Rooms::for_cells(side * side), Rooms::for_cells(side * side)];
     let mut timed = Timed { kind, goal, side, times: [Duration::MAX; 3], answers: [Answer::default(); 3] };
-    for run in 0..WARM_UPS + RUNS {
+    for run in 0..WARM_UPS + runs_on(side) {
         for (i, planner) in PLANNERS.into_iter().enumerate() {
             let (time, answer) = time_call(planner, &question, &mut rooms[i]);
             timed.answers[i] = answer;
@@ -65,8 +83,8 @@ fn print_row(t: &Timed) {
         ours / ordinary,
         search * 1e3,
         ours / search,
-        ours * 1e9 / settled as f64,
-        ordinary * 1e9 / settled as f64,
-        search * 1e9 / searched as f64
+        t.per_cell(0),
+        t.per_cell(1),
+        t.per_cell(2)
     );
 }

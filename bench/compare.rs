@@ -2,7 +2,7 @@
 
 use crate::floors::{Goal, Kind, Random, ASTAR_KINDS, GOALS, KINDS};
 use crate::question::{Answer, Planner, Question, Rooms};
-use crate::{ordinary, ordinary_astar, ours, SIDES};
+use crate::{ordinary, ordinary_astar, ours, GREATEST_SIDE, SIDES};
 
 /// Two that must answer alike.
 struct Pair {
@@ -71,13 +71,17 @@ fn compare_random(pair: &Pair, seed: u64) -> Result<usize, String> {
     Ok(COUNT)
 }
 
-/// The timed question to A*, the way back and four ways; and that A* finds what the search finds.
+/// The timed question to A*, the way back and four ways; and that A* finds what the search finds. On the greatest floor the timed
+/// question alone, since each takes long.
 fn compare_aimed(kind: Kind, side: usize, goal: Goal) -> Result<usize, String> {
     let question = kind.question_to(side, goal);
     let rooms = roomy(side * side);
     let back = Question { start: question.goal, goal: question.start, ..question.clone() };
     let four = Question { ways: 4, ..question.clone() };
-    let variants = [question, back, four];
+    let mut variants = vec![question, back, four];
+    if side == GREATEST_SIDE {
+        variants.truncate(1);
+    }
     for variant in &variants {
         let aimed = compare(&ASTAR, variant, &rooms)?;
         let searched = compare(&SEARCH, variant, &rooms)?;
@@ -90,13 +94,17 @@ fn compare_aimed(kind: Kind, side: usize, goal: Goal) -> Result<usize, String> {
     Ok(variants.len())
 }
 
-/// The timed question of a floor, the way back, four ways, and limits about the goal's place and below it, down to 0.
+/// The timed question of a floor, the way back, four ways, and limits about the goal's place and below it, down to 0. On the
+/// greatest floor the timed question alone.
 fn compare_floor(kind: Kind, side: usize) -> Result<usize, String> {
     let question = kind.question(side);
     let rooms = roomy(side * side);
     let answer = compare(&SEARCH, &question, &rooms)?;
     if answer.kind != 1 {
         return Err(format!("{} {side}: a route is expected, not {answer:?}", kind.name()));
+    }
+    if side == GREATEST_SIDE {
+        return Ok(1);
     }
     let settled = answer.settled as u32;
     let back = Question { start: question.goal, goal: question.start, ..question.clone() };
@@ -177,7 +185,7 @@ fn refused_before_15(sound: Question) -> Vec<Refused> {
     let twice_blocked = vec![0, 0, 0, 1, 1, 1];
     vec![
         refused_as(1, 0, Question { width: 0, ..sound.clone() }, enough),
-        refused_as(1, 0, Question { height: 257, map: vec![10; 3 * 257], ..sound.clone() }, nothing),
+        refused_as(1, 0, Question { height: 1025, map: vec![10; 3 * 1025], ..sound.clone() }, nothing),
         refused_as(1, 0, Question { width: u32::MAX, height: u32::MAX, ..sound.clone() }, nothing),
         refused_as(2, 0, Question { map: vec![10; 7], ..sound.clone() }, nothing),
         refused_as(2, 0, Question { map: vec![], ..sound.clone() }, nothing),

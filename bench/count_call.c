@@ -4,7 +4,7 @@
 long read(int file, void *bytes, size_t length);
 int printf(const char *format, ...);
 
-enum { SIDE = 256, CELLS = SIDE * SIDE };
+enum { SIDE = FRADNUMBER_GREATEST_SIDE, CELLS = FRADNUMBER_MOST_CELLS };
 
 static uint32_t question[3], costs[CELLS], work[2 * CELLS];
 static uint8_t map[CELLS], route[CELLS];

@@ -17,10 +17,20 @@ use question::{Answer, Planner, Question, Rooms};
 use std::process::ExitCode;
 use std::time::Duration;
 
-pub const SIDES: [usize; 3] = [64, 128, 256];
+/// The sides of the floors that are timed.
+pub const SIDES: [usize; 3] = [64, 256, GREATEST_SIDE];
 
-/// How often each planner is run on each floor; the least time counts.
-const RUNS: usize = 51;
+/// No floor has a greater one.
+pub const GREATEST_SIDE: usize = 1024;
+
+/// How often each planner is run on a floor of the side; the least time counts. A run on the greatest floor is long, so that fewer do.
+pub const fn runs_on(side: usize) -> usize {
+    if side < GREATEST_SIDE {
+        51
+    } else {
+        15
+    }
+}
 
 /// Runs of each planner before the timed ones, so that neither is the first to touch its rooms and its code.
 const WARM_UPS: usize = 3;
@@ -70,10 +80,18 @@ fn print_times() {
             times.push(time_floor(kind, side));
         }
     }
-    println!("processor time, the least of {RUNS} runs of each, in turn; all rooms cleared before each run, outside the time\n");
+    println!(
+        "processor time, the least of {} runs of each, of {} at side {GREATEST_SIDE}, in turn; all rooms cleared before each run, outside the time\n",
+        runs_on(SIDES[0]),
+        runs_on(GREATEST_SIDE)
+    );
     print_floors(&times);
     println!("\nns per settled cell, by side\n");
-    print_growth(&times);
+    print_growth_head(&["ours", "ordinary"]);
+    for of_kind in times.chunks(SIDES.len()) {
+        let of = |time: fn(&Timed) -> Duration| of_kind.iter().map(|t| t.per_cell(time(t))).collect();
+        print_growth(of_kind[0].kind.name(), &[of(|t| t.ours), of(|t| t.ordinary)]);
+    }
 }
 
 fn time_floor(kind: Kind, side: usize) -> Timed {
@@ -81,7 +99,7 @@ fn time_floor(kind: Kind, side: usize) -> Timed {
     let mut our_rooms = Rooms::for_cells(side * side);
     let mut their_rooms = our_rooms.clone();
     let mut timed = Timed { kind, side, settled: 0, ours: Duration::MAX, ordinary: Duration::MAX };
-    for run in 0..WARM_UPS + RUNS {
+    for run in 0..WARM_UPS + runs_on(side) {
         let (our_time, our_answer) = time_call(ours::search, &question, &mut our_rooms);
         let (their_time, their_answer) = time_call(ordinary::search, &question, &mut their_rooms);
         assert_eq!(our_answer, their_answer);
@@ -103,7 +121,7 @@ fn time_call(planner: Planner, question: &Question, rooms: &mut Rooms) -> (Durat
     (clock::now() - begun, answer)
 }
 
-/// The greatest ratio aimed at on a floor of the greatest side, for each kind of machine.
+/// The greatest ratio aimed at, for each kind of machine. The aims are R-5's and for the side that was the greatest then.
 fn aim(kind: Kind, side: usize) -> Option<f64> {
     let (empty, blocked, maze) = if cfg!(target_arch = "x86_64") { (0.55, 0.70, 0.75) } else { (0.35, 0.45, 0.60) };
     match kind {
@@ -139,20 +157,22 @@ fn print_floors(times: &[Timed]) {
     }
 }
 
-fn print_growth(times: &[Timed]) {
-    println!("| floor | ours 64 | 128 | 256 | 256 over 64 | ordinary 64 | 128 | 256 | 256 over 64 |");
-    println!("|---|---|---|---|---|---|---|---|---|");
-    for of_kind in times.chunks(SIDES.len()) {
-        println!(
-            "| {} | {} | {} |",
-            of_kind[0].kind.name(),
-            growth(of_kind.iter().map(|t| t.per_cell(t.ours)).collect()),
-            growth(of_kind.iter().map(|t| t.per_cell(t.ordinary)).collect())
-        );
-    }
+/// The head of a table of growth: each planner's time by side, and that of the greatest side over the one before.
+fn print_growth_head(planners: &[&str]) {
+    let sides: Vec<String> = SIDES.iter().map(usize::to_string).collect();
+    let [.., before, greatest] = SIDES;
+    let columns: Vec<String> = planners.iter().map(|planner| format!("{planner} {} | {greatest} over {before}", sides.join(" | "))).collect();
+    println!("| floor | {} |", columns.join(" | "));
+    println!("|---{}|", "|---".repeat(planners.len() * (SIDES.len() + 1)));
 }
 
-fn growth(per_cell: Vec<f64>) -> String {
+/// A row of it.
+fn print_growth(floor: &str, planners: &[Vec<f64>]) {
+    let columns: Vec<String> = planners.iter().map(|per_cell| growth(per_cell)).collect();
+    println!("| {floor} | {} |", columns.join(" | "));
+}
+
+fn growth(per_cell: &[f64]) -> String {
     let times: Vec<String> = per_cell.iter().map(|ns| format!("{ns:.1}")).collect();
-    format!("{} | {:.2}", times.join(" | "), per_cell[per_cell.len() - 1] / per_cell[0])
+    format!("{} | {:.2}", times.join(" | "), per_cell[per_cell.len() - 1] / per_cell[per_cell.len() - 2])
 }

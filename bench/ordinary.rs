@@ -95,7 +95,7 @@ fn refusal(question: &Question, rooms: &Rooms) -> Option<Answer> {
 
 /// The refusals 1 to 11: the lowest that applies.
 pub fn refused_before_15(question: &Question, rooms: &Rooms) -> Option<Answer> {
-    let is_side = |n: u32| (1..=256).contains(&n);
+    let is_side = |n: u32| (1..=1024).contains(&n);
     if !is_side(question.width) || !is_side(question.height) {
         return Some(Answer::refused(1, 0));
     }
