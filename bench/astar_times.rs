@@ -2,7 +2,7 @@
 
 use crate::floors::{Goal, Kind, ASTAR_KINDS, GOALS};
 use crate::question::{Answer, Planner, Rooms};
-use crate::{ordinary_astar, ours, print_growth, print_growth_head, runs_on, time_call, SIDES, WARM_UPS};
+use crate::{ordinary_astar, ours, print_growth, print_growth_head, time_call, RUNS, SIDES, WARM_UPS};
 use std::time::Duration;
 
 /// What is timed, in this order.
@@ -55,7 +55,7 @@ fn time_question(kind: Kind, goal: Goal, side: usize) -> Timed {
     let question = kind.question_to(side, goal);
     let mut rooms = [Rooms::for_cells(side * side), Rooms::for_cells(side * side), Rooms::for_cells(side * side)];
     let mut timed = Timed { kind, goal, side, times: [Duration::MAX; 3], answers: [Answer::default(); 3] };
-    for run in 0..WARM_UPS + runs_on(side) {
+    for run in 0..WARM_UPS + RUNS {
         for (i, planner) in PLANNERS.into_iter().enumerate() {
             let (time, answer) = time_call(planner, &question, &mut rooms[i]);
             timed.answers[i] = answer;

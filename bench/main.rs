@@ -23,14 +23,8 @@ pub const SIDES: [usize; 3] = [64, 256, GREATEST_SIDE];
 /// No floor has a greater one.
 pub const GREATEST_SIDE: usize = 1024;
 
-/// How often each planner is run on a floor of the side; the least time counts. A run on the greatest floor is long, so that fewer do.
-pub const fn runs_on(side: usize) -> usize {
-    if side < GREATEST_SIDE {
-        51
-    } else {
-        15
-    }
-}
+/// How often each planner is run on each floor; the least time counts.
+const RUNS: usize = 51;
 
 /// Runs of each planner before the timed ones, so that neither is the first to touch its rooms and its code.
 const WARM_UPS: usize = 3;
@@ -80,11 +74,7 @@ fn print_times() {
             times.push(time_floor(kind, side));
         }
     }
-    println!(
-        "processor time, the least of {} runs of each, of {} at side {GREATEST_SIDE}, in turn; all rooms cleared before each run, outside the time\n",
-        runs_on(SIDES[0]),
-        runs_on(GREATEST_SIDE)
-    );
+    println!("processor time, the least of {RUNS} runs of each, in turn; all rooms cleared before each run, outside the time\n");
     print_floors(&times);
     println!("\nns per settled cell, by side\n");
     print_growth_head(&["ours", "ordinary"]);
@@ -99,7 +89,7 @@ fn time_floor(kind: Kind, side: usize) -> Timed {
     let mut our_rooms = Rooms::for_cells(side * side);
     let mut their_rooms = our_rooms.clone();
     let mut timed = Timed { kind, side, settled: 0, ours: Duration::MAX, ordinary: Duration::MAX };
-    for run in 0..WARM_UPS + runs_on(side) {
+    for run in 0..WARM_UPS + RUNS {
         let (our_time, our_answer) = time_call(ours::search, &question, &mut our_rooms);
         let (their_time, their_answer) = time_call(ordinary::search, &question, &mut their_rooms);
         assert_eq!(our_answer, their_answer);
