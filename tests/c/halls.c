@@ -198,7 +198,8 @@ static void texts(const char *hall)
     written = fradnumber_write_map(side, side, map, cells, text.room, TEXT - 1);
     expect_true("a byte less of room", written.refusal == FRADNUMBER_SHORT_TEXT && written.length == 0 && is_old(&text, sizeof text));
     written = fradnumber_write_map(side, side, map, cells, text.room, TEXT);
-    expect_true(hall, written.refusal == 0 && written.place == 0 && written.length == TEXT && same(text.room, laid, TEXT) && BESIDE_IS_OLD(text));
+    expect_true(hall, written.refusal == 0 && written.place == 0 && written.length == TEXT);
+    expect_true("its bytes", same(text.room, laid, TEXT) && BESIDE_IS_OLD(text));
     fill(&read_cells, sizeof read_cells);
     expect_true(hall, is_read(fradnumber_read_map(laid, TEXT, read_cells.room, cells), 0, 0, side));
     expect_true("its cells", same(read_cells.room, map, cells) && BESIDE_IS_OLD(read_cells));
@@ -268,14 +269,17 @@ static struct fradnumber_entry_written logged(struct fradnumber_answer answer, u
 static void logged_level_hall(void)
 {
     static uint8_t log[FRADNUMBER_LONGEST_ENTRY], back[GREATEST_SIDE];
-    struct fradnumber_answer answer = {FRADNUMBER_FOUND, 0, 0, MOST_CELLS, DIAGONAL * (GREATEST_SIDE - 1), GREATEST_SIDE - 1, 0, 18 * (GREATEST_SIDE - 1)};
+    enum { STEPS = GREATEST_SIDE - 1 };
+    struct fradnumber_answer answer = {FRADNUMBER_FOUND, 0, 0, MOST_CELLS, DIAGONAL * STEPS, STEPS, 0, 18 * STEPS};
     struct fradnumber_entry_written written = logged(answer, log, sizeof log);
     struct fradnumber_entry entry = fradnumber_read_entry(log, sizeof log, back, sizeof back);
     expect_true("logged", written.refusal == 0 && written.length == 64 + 32 * 32);
-    expect_true("read", entry.refusal == 0 && entry.taken == 64 + 32 * 32 && entry.length == GREATEST_SIDE - 1 && same(back, due_route, GREATEST_SIDE - 1));
-    expect_true("its goal and limit", fradnumber_number_at(entry.question, 4) == MOST_CELLS - 1 && fradnumber_number_at(entry.question, 8) == MOST_CELLS);
-    expect_true("its settled count, cost and Q", fradnumber_number_at(entry.answer, 4) == answer.settled
-                                                     && fradnumber_number_at(entry.answer, 8) == answer.number && fradnumber_number_at(entry.answer, 20) == answer.q);
+    expect_true("read", entry.refusal == 0 && entry.taken == 64 + 32 * 32 && entry.length == STEPS && same(back, due_route, STEPS));
+    expect_true("its goal", fradnumber_number_at(entry.question, 4) == MOST_CELLS - 1);
+    expect_true("its limit", fradnumber_number_at(entry.question, 8) == MOST_CELLS);
+    expect_true("its settled count", fradnumber_number_at(entry.answer, 4) == answer.settled);
+    expect_true("its cost", fradnumber_number_at(entry.answer, 8) == answer.number);
+    expect_true("its Q", fradnumber_number_at(entry.answer, 20) == answer.q);
 }
 
 /* A way of more than 4,095 steps cannot be logged, and nothing is changed. */

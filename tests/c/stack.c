@@ -14,8 +14,9 @@ enum { DEEPEST = 768 };
 static uint64_t stack[STACK / 8] __attribute__((aligned(64)));
 
 static uint32_t costs[MOST_CELLS], work[2 * MOST_CELLS], goal, limit, ways;
-static uint8_t route[MOST_CELLS], text[FRADNUMBER_LONGEST_TEXT], log[FRADNUMBER_LONGEST_ENTRY], question[FRADNUMBER_RECORD_SIZE], answer[FRADNUMBER_RECORD_SIZE];
-static size_t route_length, text_length, log_length;
+static uint8_t route[MOST_CELLS], text[FRADNUMBER_LONGEST_TEXT];
+static uint8_t question[FRADNUMBER_RECORD_SIZE], answer[FRADNUMBER_RECORD_SIZE], entry[FRADNUMBER_LONGEST_ENTRY];
+static size_t route_length, text_length, entry_length;
 
 /* What the last call answered: a kind of the engines, 0 if a claim holds or what was asked was read or written. */
 static uint64_t told;
@@ -47,13 +48,14 @@ static void judge_map(void) { told = fradnumber_judge_map(text, text_length, cel
 
 static void write_entry(void)
 {
-    struct fradnumber_entry_written written = fradnumber_write_entry(question, answer, due_route, route_length, log, sizeof log);
+    struct fradnumber_entry_written written = fradnumber_write_entry(question, answer, due_route, route_length, entry, sizeof entry);
     told = written.refusal;
-    log_length = (size_t)written.length;
+    entry_length = (size_t)written.length;
 }
 
-static void read_entry(void) { told = fradnumber_read_entry(log, log_length, route, sizeof route).refusal; }
+static void read_entry(void) { told = fradnumber_read_entry(entry, entry_length, route, sizeof route).refusal; }
 
+/* All that a call may change is named, so that the compiler keeps nothing there. */
 static void on_own_stack(void (*call)(void))
 {
     uint64_t *top = stack + STACK / 8;
@@ -61,15 +63,16 @@ static void on_own_stack(void (*call)(void))
     __asm__ volatile("movq %%rsp, %%rbx\n\tmovq %0, %%rsp\n\tcallq *%1\n\tmovq %%rbx, %%rsp"
                      : "+r"(top), "+r"(call)
                      :
-                     : "rax", "rbx", "rcx", "rdx", "rsi", "rdi", "r8", "r9", "r10", "r11", "xmm0", "xmm1", "xmm2", "xmm3", "xmm4", "xmm5", "xmm6",
-                       "xmm7", "xmm8", "xmm9", "xmm10", "xmm11", "xmm12", "xmm13", "xmm14", "xmm15", "cc", "memory");
+                     : "rax", "rbx", "rcx", "rdx", "rsi", "rdi", "r8", "r9", "r10", "r11", "xmm0", "xmm1", "xmm2", "xmm3", "xmm4",
+                       "xmm5", "xmm6", "xmm7", "xmm8", "xmm9", "xmm10", "xmm11", "xmm12", "xmm13", "xmm14", "xmm15", "cc", "memory");
 #elif defined(__aarch64__)
     __asm__ volatile("mov x19, sp\n\tmov sp, %0\n\tblr %1\n\tmov sp, x19"
                      : "+r"(top), "+r"(call)
                      :
-                     : "x0", "x1", "x2", "x3", "x4", "x5", "x6", "x7", "x8", "x9", "x10", "x11", "x12", "x13", "x14", "x15", "x16", "x17", "x18", "x19",
-                       "x30", "v0", "v1", "v2", "v3", "v4", "v5", "v6", "v7", "v8", "v9", "v10", "v11", "v12", "v13", "v14", "v15", "v16", "v17", "v18", "v19", "v20", "v21", "v22", "v23", "v24", "v25", "v26", "v27",
-                       "v28", "v29", "v30", "v31", "cc", "memory");
+                     : "x0", "x1", "x2", "x3", "x4", "x5", "x6", "x7", "x8", "x9", "x10", "x11", "x12", "x13", "x14", "x15", "x16",
+                       "x17", "x18", "x19", "x30", "v0", "v1", "v2", "v3", "v4", "v5", "v6", "v7", "v8", "v9", "v10", "v11", "v12",
+                       "v13", "v14", "v15", "v16", "v17", "v18", "v19", "v20", "v21", "v22", "v23", "v24", "v25", "v26", "v27", "v28",
+                       "v29", "v30", "v31", "cc", "memory");
 #else
 #error neither x86-64 nor aarch64
 #endif
@@ -91,10 +94,18 @@ enum { FOUND, STOPPED, NONE, AIMED, AIMED_NONE, ROUTE, TABLE, WRITE, READ, JUDGE
 
 /* Each call, and what it must tell on the question that it is asked here. */
 static const struct { const char *name; void (*call)(void); uint64_t tells; } calls[CALLS] = {
-    {"search, found", search, FRADNUMBER_FOUND},   {"search, stopped", search, FRADNUMBER_STOPPED}, {"search, none", search, FRADNUMBER_NONE},
-    {"A*, found", astar, FRADNUMBER_FOUND},        {"A*, none", astar, FRADNUMBER_NONE},            {"route check", check_route, 0},
-    {"table check", check_table, 0},               {"map writer", write_map, 0},                    {"map reader", read_map, 0},
-    {"map judged", judge_map, 0},                  {"log writer", write_entry, 0},                  {"log reader", read_entry, 0}};
+    {"search, found", search, FRADNUMBER_FOUND},
+    {"search, stopped", search, FRADNUMBER_STOPPED},
+    {"search, none", search, FRADNUMBER_NONE},
+    {"A*, found", astar, FRADNUMBER_FOUND},
+    {"A*, none", astar, FRADNUMBER_NONE},
+    {"route check", check_route, 0},
+    {"table check", check_table, 0},
+    {"map writer", write_map, 0},
+    {"map reader", read_map, 0},
+    {"map judged", judge_map, 0},
+    {"log writer", write_entry, 0},
+    {"log reader", read_entry, 0}};
 
 enum { CORRIDORS, STAIRS, LEVEL, HALLS };
 
