@@ -3,6 +3,7 @@
 Nothing is planned here. The layouts are those of docs/MANUAL.md ("Records") and of crates/calls/src/main.rt.
 """
 import os
+import resource
 import secrets
 import shutil
 import stat
@@ -19,9 +20,12 @@ START = ROOT / "tools" / "start"
 MARK = 4294967295
 LARGEST = 4294967295
 # the library's greatest floor, and a text longer than any map of it
-MOST_SIDE = 256
+MOST_SIDE = 1024
 MOST_CELLS = MOST_SIDE * MOST_SIDE
-MOST_TEXT = 66000
+MOST_TEXT = 1050000
+# the most cells, directions and bytes of text in a call of `calls`; for more it is started as `calls hall`, which needs this stack (tools/start)
+USUAL_ROOM = 66000
+HALL_STACK = 64 << 20
 # the program's
 PROGRAM_SIDE = 64
 PROGRAM_TEXT = 4195
@@ -30,6 +34,7 @@ REFUSED, FOUND, NONE, STOPPED = range(4)
 HOLDS, FAULT = 1, 2  # kinds of a route claim's answer, beside REFUSED
 RIGHT = 1  # of a table claim's
 EMPTY = 2  # of what the rest of a log reads as
+ROOM_TOO_SHORT = 29  # the reader's refusal of a map with more cells than the room
 SEARCH, ROUTE_CLAIM, TABLE_CLAIM, READ_MAP, ANSWER_RECORDS, READ_ENTRY, WRITE_ENTRY, ASTAR = 1, 2, 3, 4, 9, 12, 13, 14
 
 # The eight directions: name, dx, dy.
@@ -124,9 +129,9 @@ def is_for_program(floor, text):
     return max(floor.width, floor.height) <= PROGRAM_SIDE and len(text) <= PROGRAM_TEXT
 
 
-def started(program, **more):
+def started(program, *words, **more):
     try:
-        return subprocess.Popen([str(START), program], stdin=subprocess.PIPE, stdout=subprocess.PIPE, **more)
+        return subprocess.Popen([str(START), program, *words], stdin=subprocess.PIPE, stdout=subprocess.PIPE, **more)
     except OSError as error:
         raise Trouble(f"tools/start cannot be started: {error.strerror}") from None
 
@@ -208,15 +213,40 @@ class Planner:
         return answered
 
 
+def expect_stack():
+    """Trouble where the system does not allow the stack that `calls hall` needs: without it that would end with a bare signal."""
+    _, most = resource.getrlimit(resource.RLIMIT_STACK)
+    if most != resource.RLIM_INFINITY and most < HALL_STACK:
+        raise Trouble(
+            f"a map or a text this large needs a stack of {HALL_STACK >> 10} kB, and the limit here is {most >> 10} kB (ulimit -H -s): raise it, in the"
+            f" shell that set it or in /etc/security/limits.conf, or ask about a floor of at most {USUAL_ROOM} cells"
+        )
+
+
 class Calls:
-    """The program `calls`, kept running for several calls."""
+    """The program `calls`, started at the first call and kept running for several. Its usual rooms are the quicker ones to start with; the first call that
+    needs larger ones starts it anew."""
+
+    def __init__(self):
+        self.process, self.in_hall = None, False
 
     def __enter__(self):
-        self.process = started("calls")
         return self
 
     def __exit__(self, *_):
-        ended(self.process)
+        if self.process:
+            ended(self.process)
+
+    def make_ready(self, longest):
+        """Has the program running, with rooms that are long enough."""
+        hall = longest > USUAL_ROOM
+        if self.process and (self.in_hall or not hall):
+            return
+        if hall:
+            expect_stack()
+        if self.process:
+            ended(self.process)
+        self.process, self.in_hall = started("calls", *(["hall"] if hall else [])), hall
 
     def call(self, what, cells, floor=(0, 0, 0), start=0, goal=0, limit=0, costs=(0, b""), work=0, route=(0, b""), text=(0, b"")):
         """The eight numbers of the reply and its rooms, as they were left: map, costs, work, route, text. A room is its length and the bytes given; of the
@@ -224,6 +254,7 @@ class Calls:
         head = (what, 0, *floor, start, goal, limit, cells[0], len(cells[1]), costs[0], len(costs[1]) // 4, work, 0)
         sent = HEAD_LAYOUT.pack(*head, route[0], len(route[1]), text[0], len(text[1])) + cells[1] + costs[1] + route[1] + text[1]
         lengths = (NUMBERS_LAYOUT.size, cells[0], 4 * costs[0], 4 * work, route[0], text[0])
+        self.make_ready(max(cells[0], costs[0], -(-work // 2), route[0], text[0]))
         reply = exchange(self.process, sent, sum(lengths))
         if len(reply) != sum(lengths):
             raise Trouble("the program calls gave no whole reply; 'rt check calls' builds it")
@@ -234,9 +265,14 @@ class Calls:
         return NUMBERS_LAYOUT.unpack(parts[0]), parts[1:]
 
     def read_map(self, text):
-        """The floor of a map's text, or its refusal."""
-        (kind, number, place, width, height, *_), (cells, *_) = self.call(READ_MAP, (MOST_CELLS, b""), text=(len(text), text))
-        return Refusal(number, place) if kind == REFUSED else Floor(width, height, cells[: width * height])
+        """The floor of a map's text, or its refusal. What has no place in the usual room gets one for the greatest floor."""
+        for room in (MOST_CELLS,) if len(text) > USUAL_ROOM else (USUAL_ROOM, MOST_CELLS):
+            (kind, number, place, width, height, *_), (cells, *_) = self.call(READ_MAP, (room, b""), text=(len(text), text))
+            if kind != REFUSED:
+                return Floor(width, height, cells[: width * height])
+            if number != ROOM_TOO_SHORT:
+                break
+        return Refusal(number, place)
 
     def search(self, floor, asked):
         """The answer to a question, as the planner would give it, and the rooms afterwards."""
@@ -259,9 +295,10 @@ class Calls:
         return answer, Rooms(struct.unpack(f"<{size}I", costs), route[:length])
 
     def check_route(self, floor, asked, cost, route):
-        """What the check of claimed routes, which does not know the search, says of a route at this cost."""
+        """What the check of claimed routes, which does not know the search, says of a route at this cost. One of more steps than the longest allowed is
+        refused whatever they are, so that as many as there are cells are enough to hand on."""
         size = floor.width * floor.height
-        shape = (floor.width, floor.height, asked.ways)
+        shape, route = (floor.width, floor.height, asked.ways), route[:size]
         (kind, number, place, held, *_), _ = self.call(
             ROUTE_CLAIM, (size, floor.cells), shape, asked.start, asked.goal, cost, route=(len(route), route)
         )

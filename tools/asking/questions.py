@@ -3,7 +3,7 @@ import shutil
 import sys
 from collections import namedtuple
 
-from asking import drawing, terminal, words
+from asking import drawing, overview, terminal, words
 from asking.logfile import Log
 from asking.names import base_name, visible
 from asking.output import write_file
@@ -355,6 +355,13 @@ def costs_table(given, calls, floor, _):
 # ---- told
 
 
+def picture(view, stream, colour):
+    """The lines of the picture in the terminal: cell by cell, or where that does not fit, an overview."""
+    size = shutil.get_terminal_size()
+    draw = terminal.picture if terminal.fits(view.floor, size) else overview.picture
+    return draw(view, size, colour, terminal.marks_for(stream))
+
+
 def tell(given, told, out, colour):
     """Lines or an object, then the pictures. What has been answered is told before a picture can fail."""
     if given.json:
@@ -362,8 +369,7 @@ def tell(given, told, out, colour):
     else:
         out.lines(told.lines)
         if told.view is not None and not given.quiet:
-            marks, columns = terminal.marks_for(out.stream), shutil.get_terminal_size().columns
-            out.lines(["", *terminal.picture(told.view, columns, colour, marks)])
+            out.lines(["", *picture(told.view, out.stream, colour)])
     if given.svg is not None and told.view is not None:
         write_file(given.svg, drawing.svg(told.view, told.headline).encode("utf-8"), "the picture")
         if given.svg != "-" and not given.json:

@@ -2,12 +2,14 @@
 that it is readable without colour; colour comes on top."""
 from collections import namedtuple
 
-from asking.programs import DIRECTIONS
+from asking.programs import DIRECTIONS, PROGRAM_SIDE
 
-Marks = namedtuple("Marks", "arrows dots blocked root corners across down")
-UNICODE = Marks("↑↗→↘↓↙←↖", "·•●", "█", "√2", "┌┐└┘", "─", "│")
+# The last four are the overview's alone (overview.py); `trail` is the route's there, by the eighths of a block that it enters.
+Marks = namedtuple("Marks", "arrows dots blocked root corners across down halves partly among trail")
+BRAILLE = "".join(map(chr, range(0x2800, 0x2900)))
+UNICODE = Marks("↑↗→↘↓↙←↖", "·•●", "█", "√2", "┌┐└┘", "─", "│", "▀▄█", "▚", "░▒▓", BRAILLE)
 # one character for each direction here too, though no letter looks like an arrow: the legend names them
-PLAIN = Marks("^/>\\v,<`", "-=%", "#", " sqrt(2)", "++++", "-", "|")
+PLAIN = Marks("^/>\\v,<`", "-=%", "#", " sqrt(2)", "++++", "-", "|", '"_#', "+", "~&$", "*" * len(BRAILLE))
 LETTERS = {"fault": "!", "both": "B", "start": "S", "goal": "G"}
 
 # Where a mark stands there is no dot.
@@ -64,6 +66,11 @@ def mark_colours(view, cell):
 
 def painted(text, pair):
     return f"\033[38;5;{pair[0]};48;5;{pair[1]}m{text}\033[0m"
+
+
+def sampled(colour):
+    """A function that shows a piece of the picture in a legend, in its colours if there are any."""
+    return painted if colour else lambda text, _: text
 
 
 def joined(pieces, colour):
@@ -134,10 +141,7 @@ def fault_name(view):
 
 def legend(view, marks, laid, colour):
     """What stands in this picture, and nothing else."""
-
-    def sample(text, pair):
-        return painted(text, pair) if colour else text
-
+    sample = sampled(colour)
     names = {"fault": fault_name(view), "both": "start and goal", "start": "start", "goal": "goal"}
     shown = view.marks()
     marked = [f"{sample(LETTERS[mark], MARKED[mark])} {name}" for mark, name in names.items() if mark in shown]
@@ -163,12 +167,16 @@ def legend(view, marks, laid, colour):
     return [" " * MARGIN + " " + line for line in lines]
 
 
-def picture(view, columns, colour, marks):
-    """The lines of the picture, as far as it fits the columns."""
+def fits(floor, size):
+    """Whether a floor can be drawn cell by cell. What is too wide would be broken; what is too high only scrolls, so that the greatest floor of the program
+    is drawn in full whatever the terminal's height."""
+    return MARGIN + 2 + floor.width <= size.columns and floor.height <= max(PROGRAM_SIDE, size.lines)
+
+
+def picture(view, size, colour, marks):
+    """The lines of the picture of a floor that fits."""
     width = view.floor.width
-    if MARGIN + 2 + width > columns:
-        return [f"no picture here: it needs {MARGIN + 2 + width} columns and there are {columns}; --svg FILE draws it at any size"]
-    laid = layout(view, columns)
+    laid = layout(view, size.columns)
     cell_width = 2 if laid == BESIDE else 1
     edge = marks.across * (width * cell_width)
     lines = [scale(width, cell_width), " " * MARGIN + marks.corners[0] + edge + marks.corners[1]]

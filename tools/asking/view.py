@@ -46,8 +46,10 @@ class View:
             yield [self.cell(x, y) for x in range(self.floor.width)]
 
     def marks(self):
-        """The marks that stand somewhere."""
-        return {cell.mark for row in self.rows() for cell in row if cell.mark}
+        """The marks that stand somewhere. No cell is looked at: there may be a million."""
+        ends = {cell for cell in (self.start, self.goal, self.fault) if cell is not None and cell < len(self.floor.cells)}
+        route = len(self.leaving) > sum(cell in self.leaving for cell in ends)
+        return {self.mark(cell) for cell in ends} | ({"route"} if route else set())
 
     def weights(self):
         """The weights above 1 that occur."""

@@ -2,12 +2,12 @@
 import math
 
 from asking.programs import (
-    ANSWER_ZEROS, DIRECTIONS, FOUND, HOLDS, LARGEST, LONGEST_LOGGED_ROUTE, MARK, NONE, QUESTION_ZEROS, RECORD, REFUSED, STOPPED, cells_of,
+    ANSWER_ZEROS, DIRECTIONS, FOUND, HOLDS, LARGEST, LONGEST_LOGGED_ROUTE, MARK, MOST_SIDE, NONE, QUESTION_ZEROS, RECORD, REFUSED, STOPPED, cells_of,
 )
 
 # Refusals and faults, as docs/MANUAL.md has them ("Refusals and faults").
 NUMBERS = {
-    1: "width or height is 0 or above 256",
+    1: f"width or height is 0 or above {MOST_SIDE}",
     2: "the map's length is not width x height",
     3: "a map byte is above 9",
     4: "ways is neither 4 nor 8",
@@ -23,8 +23,8 @@ NUMBERS = {
     14: "the map is too big for the program",
     15: "the limit is 0 (left empty?), and must be at least 1",
     21: "the first line is not 'type octile'",
-    22: "the second line is not 'height H' with H from 1 to 256, one space and no leading zero",
-    23: "the third line is not 'width W' with W from 1 to 256, one space and no leading zero",
+    22: f"the second line is not 'height H' with H from 1 to {MOST_SIDE}, one space and no leading zero",
+    23: f"the third line is not 'width W' with W from 1 to {MOST_SIDE}, one space and no leading zero",
     24: "the fourth line is not 'map'",
     25: "a byte that is no cell character stands where a cell is due",
     26: "another byte than LF follows a full row",
