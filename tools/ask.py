@@ -25,7 +25,7 @@ try:
     from asking import comparing, earlier, questions, reading, replaying, words
     from asking.names import visible
     from asking.output import Output, complain
-    from asking.programs import LARGEST, QUESTION_ZEROS, RECORD, ROOT, Calls, Trouble, clean_up, read_text
+    from asking.programs import LARGEST, MOST_SIDE, PROGRAM_SIDE, QUESTION_ZEROS, RECORD, ROOT, Calls, Trouble, clean_up, read_text
 except MemoryError:
     os.write(2, f"./run: {NO_MEMORY}\n".encode())
     os._exit(2)
@@ -37,8 +37,8 @@ FAILED = 2
 
 HELP = f"""\
 MAP is map text: 'type octile', 'height H', 'width W', 'map', then H rows of W cells, each line ended by LF. A cell is
-. or G (weight 1), 1 to 9 (its weight), or @, O or T (blocked). Sides go up to 256; the program planner takes sides up to
-64, and beyond that the library answers alone. A step costs 70, diagonally 99, times its weight, which is the sum of the
+. or G (weight 1), 1 to 9 (its weight), or @, O or T (blocked). Sides go up to {MOST_SIDE:,}; the program planner takes sides up to
+{PROGRAM_SIDE}, and beyond that the library answers alone. A step costs 70, diagonally 99, times its weight, which is the sum of the
 weights of the cell it leaves and the cell it enters; no corner is cut. x grows east and y south, from 0.
 
 one question
@@ -46,8 +46,9 @@ one question
   The answer is one of: found, with its cost, steps, and true length P + Q*sqrt(2), where P and Q sum the steps' weights,
   over straight and over diagonal steps; none; stopped, when the limit of settled cells came before the goal, with the
   floor: no route to the goal costs less; refused, with the reason. P and Q are the answer's; if the route has others, that
-  is said. The picture shows the floor, the settled cells by cost, and the route. It needs 6 columns more than the map is
-  wide. For negative numbers write --from=-1,5.
+  is said. The picture shows the floor, the settled cells by cost, and the route, cell by cell; where the map is wider than
+  the terminal less 6 columns, or higher than both {PROGRAM_SIDE} rows and the terminal, a character stands for a block of cells. In the
+  file of --svg a map of more than {PROGRAM_SIDE * PROGRAM_SIDE} cells has no digits and no hints; colours tell. For negative numbers write --from=-1,5.
   --limit is at least 1: with 0 nothing can be settled, and it is refused. Without it the whole map is searched.
 
 two engines

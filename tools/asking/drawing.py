@@ -203,7 +203,3 @@ class Drawing:
         title = f"<title>{escape(self.headline[0], quote=False)}</title><style>{STYLE}</style>"
         paper = f'<rect class="paper" width="{width}" height="{height}" fill="#fff"/>'
         return "\n".join(['<?xml version="1.0" encoding="UTF-8"?>', head, title, paper, *self.parts, "</svg>", ""])
-
-
-def svg(view, headline):
-    return Drawing(view, headline).text()

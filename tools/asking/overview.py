@@ -100,8 +100,9 @@ def framed(overview, lines, marks, colour):
     """Lines of characters in a frame, with the numbers of columns and rows."""
     edge, scale = marks.across * overview.across, ""
     for column in range(0, overview.across, 10):
-        scale = scale.ljust(column) + str(column * overview.factor)
-    made = [" " * (MARGIN + 1) + scale[: overview.across], " " * MARGIN + marks.corners[0] + edge + marks.corners[1]]
+        number = str(column * overview.factor)
+        scale += (number if column + len(number) <= overview.across else "").ljust(10)
+    made = [" " * (MARGIN + 1) + scale.rstrip(" "), " " * MARGIN + marks.corners[0] + edge + marks.corners[1]]
     for row, line in enumerate(lines):
         number = 2 * row * overview.factor if row % 5 == 0 else ""
         made.append(f"{number:>{MARGIN - 1}} {marks.down}{joined(line, colour)}{marks.down}")

@@ -3,7 +3,9 @@ import shutil
 import sys
 from collections import namedtuple
 
-from asking import drawing, overview, terminal, words
+from asking import overview, terminal, words
+from asking.drawing import Drawing
+from asking.large import LargeDrawing
 from asking.logfile import Log
 from asking.names import base_name, visible
 from asking.output import write_file
@@ -362,6 +364,12 @@ def picture(view, stream, colour):
     return draw(view, size, colour, terminal.marks_for(stream))
 
 
+def svg(view, headline):
+    """The picture as a file: cell by cell up to the program's greatest floor, which takes less than 2 MB."""
+    draw = Drawing if len(view.floor.cells) <= PROGRAM_SIDE * PROGRAM_SIDE else LargeDrawing
+    return draw(view, headline).text()
+
+
 def tell(given, told, out, colour):
     """Lines or an object, then the pictures. What has been answered is told before a picture can fail."""
     if given.json:
@@ -371,7 +379,7 @@ def tell(given, told, out, colour):
         if told.view is not None and not given.quiet:
             out.lines(["", *picture(told.view, out.stream, colour)])
     if given.svg is not None and told.view is not None:
-        write_file(given.svg, drawing.svg(told.view, told.headline).encode("utf-8"), "the picture")
+        write_file(given.svg, svg(told.view, told.headline).encode("utf-8"), "the picture")
         if given.svg != "-" and not given.json:
             out.lines([f"the picture is in {visible(given.svg)}"])
     if told.trouble:
