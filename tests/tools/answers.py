@@ -161,7 +161,7 @@ def test_refused_maps(folder):
         ("long", head + "....\n...\n", ["map refused 26 at 36", "line 5, column 4: the byte is '.'; the row is longer"]),
         ("ends", head + "...\n..", ["map refused 27 at 39", "line 6, column 3: rows are missing"]),
         ("more", head + "...\n...\n\n", ["map refused 28 at 41", "line 7, column 1: the byte is '\\n'"]),
-        ("huge", "type octile\nheight 257\nwidth 1\nmap\n", ["map refused 22 at 12", "H from 1 to 256"]),
+        ("huge", "type octile\nheight 1025\nwidth 1\nmap\n", ["map refused 22 at 12", "H from 1 to 1024"]),
     ):
         path = written(folder, f"{name}.map", text)
         expect_run([path, "--from", "0,0", "--to", "0,0"], 1, [f"{name}.map:", *said])
@@ -204,8 +204,8 @@ def test_usage(folder):
         ([hall, "--replay", questions, "--answers", Path(folder, "no")], "the file of answers"),
     ):
         expect_run(words, 2, [], ["./run: ", complained])
-    expect_run(["--help"], 0, ["usage: ./run", "exit status", "--replay QUESTIONS", "examples", "sqrt(2)", "settle at most N cells, N at least 1"])
-    expect_run(["--version"], 0, ["fradnumber 3.0.0\n"])
+    expect_run(["--help"], 0, ["usage: ./run", "exit status", "--replay QUESTIONS", "examples", "sqrt(2)", "settle at most N cells, N at least 1", "Sides go up to 1,024;"])
+    expect_run(["--version"], 0, ["fradnumber 4.0.0\n"])
     print("tools: wrong usage and missing files")
 
 

@@ -11,6 +11,7 @@ from concurrent.futures import ThreadPoolExecutor
 
 import answers
 import engines
+import large
 import logs
 import pictures
 import replays
@@ -18,7 +19,7 @@ import sixteen
 import troubles
 from common import wrong
 
-MODULES = (answers, engines, logs, pictures, replays, sixteen, troubles)
+MODULES = (answers, engines, large, logs, pictures, replays, sixteen, troubles)
 TESTS = {name: value for module in MODULES for name, value in vars(module).items() if name.startswith("test_")}
 
 

@@ -250,7 +250,7 @@ def test_terminal(folder):
                 expect(f"{what}: no picture line is too long", all(len(line) <= columns for line in out.split("\n") if "│" in line and not colour), out)
                 count += 1
     _, out, _ = run([HALLS / "open.map", "--from", "0,0", "--to", "1,0"], env={"COLUMNS": "69"})
-    expect("a picture that does not fit is not drawn", picture_in(out) is None and "no picture here: it needs 70 columns and there are 69" in out, out)
+    expect("a picture that does not fit is not drawn cell by cell", picture_in(out) is None and "overview: a character stands for 2 x 4 cells" in out, out)
     print(f"tools: {count} pictures in the terminal, read back cell by cell, and their legends")
 
 
