@@ -12,7 +12,7 @@ HERE = Path(__file__).resolve().parent
 sys.path.insert(0, str(HERE.parents[1] / "tools"))
 sys.dont_write_bytecode = True
 
-from asking.programs import LARGEST, RECORD, Calls, Planner, clean_up, question, record_of, whole_records  # noqa: E402
+from asking.programs import LARGEST, RECORD, Calls, Planner, clean_up, is_for_program, question, record_of, whole_records  # noqa: E402
 from asking.questions import first_route  # noqa: E402
 
 ALL = 4096
@@ -134,6 +134,28 @@ def racks():
     return rows
 
 
+def works():
+    """A whole works, beyond the program's side: the lehr's bay in the west, three furnaces with wide warm floor in the middle, racks in the east. Two walls
+    part them, each with one gate, far from each other."""
+    rows = walled(200, 120)
+    fill(rows, 20, 24, 26, 92, 0)  # the lehr
+    warm(rows, 20, 24, 26, 92, (4, 4, 3, 3, 2, 2))
+    fill(rows, 36, 98, 52, 112, 0)  # a booth, shut
+    fill(rows, 38, 100, 50, 110, 1)
+    furnaces = ((88, 14, 112, 28), (88, 50, 112, 64), (88, 86, 112, 100))
+    for place in furnaces:
+        fill(rows, *place, 0)
+    for place in furnaces:
+        warm(rows, *place, (9, 9, 8, 7, 6, 5, 4, 4, 3, 3, 2, 2))
+    for x, gate in ((66, 104), (133, 10)):
+        fill(rows, x, 1, x + 1, 118, 0)
+        fill(rows, x, gate, x + 1, gate + 5, 1)
+    for place, x in enumerate(range(144, 196, 9)):
+        fill(rows, x, 1, x + 2, 118, 0)  # racks, by turns open in the south and in the north
+        fill(rows, x, 1 if place % 2 else 110, x + 2, 9 if place % 2 else 118, 1)
+    return rows
+
+
 def row():
     """The row of the furnace hall alone: a level cell, then forty warm ones."""
     return [[1] + [2] * 40]
@@ -219,6 +241,17 @@ def racks_questions(rows):
     ]
 
 
+def works_questions(rows):
+    west, east = (4, 4), (196, 60)
+    return [
+        asked(rows, west, east, limit=LARGEST),  # through both gates
+        asked(rows, east, west, limit=LARGEST),
+        asked(rows, west, east, limit=LARGEST, ways=4),
+        asked(rows, west, east),  # 4,096 cells are too few here
+        asked(rows, west, (44, 105), limit=LARGEST),  # into the shut booth
+    ]
+
+
 def row_questions(rows):
     return [asked(rows, (0, 0), (40, 0)), asked(rows, (40, 0), (0, 0))]
 
@@ -230,10 +263,16 @@ HALLS = (
     ("row", row, row_questions),
     ("bay", bay, bay_questions),
     ("racks", racks, racks_questions),
+    ("works", works, works_questions),
 )
 
 
 def answers(text, records):
+    """The answers of the program, or of its library where the map is beyond the program's side."""
+    with Calls() as calls:
+        floor = calls.read_map(text)
+        if not is_for_program(floor, text):
+            return calls.answers(floor, records)
     with Planner(text) as planner:
         return planner.answers(records)
 

@@ -161,7 +161,13 @@ def character(block, plain):
     return floor_character(block, plain)
 
 
-def legend_due(shown, blocks, there, plain, by):
+def weights_due(blocks, there, colour):
+    """Weights that are seen: as a digit, or in colour as the ground of what is neither a mark nor wall all over."""
+    grounds = {block.weight for block in blocks.values() if colour and block.letter is None and not block.eighths and block.walls != (True, True)}
+    return sorted({int(digit) for digit in there if digit in tuple("23456789")} | grounds - {0, 1})
+
+
+def legend_due(shown, blocks, there, plain, by, colour):
     halves, partly = (PLAIN_HALVES, PLAIN_PARTLY) if plain else (HALVES, PARTLY)
     dots, among = (PLAIN_DOTS, PLAIN_AMONG) if plain else (DOTS, AMONG)
     on_end = [name for name, cell in (("start", shown.start), ("goal", shown.goal)) if cell == shown.fault]
@@ -174,7 +180,7 @@ def legend_due(shown, blocks, there, plain, by):
         first.append("* route" if plain else "⣿ route, a dot for each eighth of a block that it enters")
     walls = "".join(half for half in halves if half in there)
     second = ([f"{walls} two thirds or more of that half or of all blocked"] if walls else []) + ([f"{partly} less than that"] if partly in there else [])
-    weights = sorted({block.weight for block in blocks.values()} - {0, 1})
+    weights = weights_due(blocks, there, colour)
     third = [" ".join(map(str, weights)) + " mean weight of the open cells, rounded up"] if weights else []
     lines = ["   ".join(part) for part in (first, second, third) if part]
     costs = {}
@@ -243,7 +249,7 @@ def expect_grounds(what, frame, blocks, legend, out):
             if block.letter or block.eighths:
                 good = (shown.ink, shown.ground) == (samples.get(shown.character) if block.letter else route)
             else:
-                good = shown.ink is not None and (block.weight < 2 or shown.ground == samples[str(block.weight)][1])
+                good = shown.ink is not None and (block.weight < 2 or block.walls == (True, True) or shown.ground == samples[str(block.weight)][1])
                 good = good and (shown.character in " 0123456789" or shown.ink == samples[shown.character][0])
             if not good:
                 expect(f"{what}: the colours of block {column},{row}", False, f"{shown} {block} {samples}\n{out}")
@@ -274,7 +280,7 @@ def expect_overview(what, out, shown, columns, lines=24, colour=False, plain=Fal
         expect_rows(f"{what}, weights", frames[1], blocks, lambda block: floor_character(block, plain), out)
         expect(f"{what}: they are named", "\nthe weights of the same floor\n" in out, out)
     there = {character(block, plain) for block in blocks.values()} | ({floor_character(block, plain) for block in blocks.values()} if len(frames) > 1 else set())
-    wanted = [" " * 6 + line for line in legend_due(shown, blocks, there, plain, by)]
+    wanted = [" " * 6 + line for line in legend_due(shown, blocks, there, plain, by, colour)]
     legend = read[frames[-1].ends + 1 : frames[-1].ends + 1 + len(wanted)]
     expect(f"{what}: the legend", ["".join(one.character for one in line) for line in legend] == wanted, f"due {wanted}\n{out}")
     if colour:
@@ -307,14 +313,15 @@ def hall_rows(width, height, generator):
     return rows
 
 
-def asked_on(rows, start, goal, limit=None):
-    """The words of a question and what is to be shown of its answer, by the reference's search."""
+def asked_on(rows, start, goal, limit=None, astar=False):
+    """The words of a question and what is to be shown of its answer, by the reference's search; with `astar` the settled cells are those of A*."""
     width, costs = len(rows[0]), reference.least_costs(rows, 8, start)
     listed = sorted(costs, key=lambda cell: (costs[cell], cell))
     most = len(listed) if limit is None else min(limit, len(listed))
     found = goal in costs and listed.index(goal) < most
     route = reference.first_route(rows, 8, costs, start, goal) if found else []
     settled = listed[: listed.index(goal) + 1] if found else listed[:most]
+    settled = reference.settled_by_astar(rows, 8, costs, goal) if astar else settled
     cells = bytes(weight for row in rows for weight in row)
     shown = Shown(width, len(rows), cells, start, goal, {cell: costs[cell] for cell in settled}, route_visits(rows, start, route))
     ends = [f"{cell % width},{cell // width}" for cell in (start, goal)]
@@ -327,7 +334,8 @@ def overviews():
     hall, tall, row = hall_rows(203, 121, generator), hall_rows(31, 300, generator), [[1] + [2] * 400]
     yield "hall", hall, 0, 203 * 60 - 8, None, ((80, 24), (50, 24), (200, 24))
     yield "hall", hall, 0, 203 * 60 - 8, 6000, ((80, 24),)
-    yield "hall", hall, 203 * 3 + 5, 203 * 3 + 6, None, ((80, 24),)  # both in one block
+    yield "hall", hall, 203 * 3 + 3, 203 * 3 + 4, None, ((80, 24),)  # both in one block
+    yield "hall", hall, 203 * 3 + 3, 203 * 3 + 3, None, ((80, 24),)
     yield "hall", hall, 203 * 114 + 195, 0, None, ((80, 24),)  # walled in: none
     yield "tall", tall, 0, 31 * 290 + 16, None, ((80, 24), (80, 200), (20, 24))
     yield "row", row, 400, 0, None, ((80, 24), (20, 24))
@@ -356,7 +364,7 @@ def test_overview_of_claims(folder):
     for x in range(2, width, 2):
         rows[11][x] = rows[9][x] = 0
     rows[10][120] = 0
-    path, start, goal = written(folder, "claim.map", text_of_weights(rows)), 10 * width, 10 * width + 140
+    path, start = written(folder, "claim.map", text_of_weights(rows)), 10 * width
     cells = bytes(weight for row in rows for weight in row)
     for steps, fault in ((119, None), (140, 120), (119, 119)):
         words = [path, "--from", "0,10", "--to", f"{140 if fault else steps},10", "--check", f"{steps} E", "--cost", 140 * steps]
@@ -364,12 +372,22 @@ def test_overview_of_claims(folder):
         ends, at = start + (140 if fault else steps), None if fault is None else start + fault
         visited = [start + step for step in range((120 if steps == 140 else steps) + 1)]
         expect_overview(f"claim of {steps} steps", out, Shown(width, height, cells, start, ends, {}, visited, at), 80)
-    # the engine that has settled is named
-    _, out, _ = run([path, "--from", "0,10", "--to", "119,10", "--engine", "astar", "--color", "never"])
-    settled = {start + step: 140 * step for step in range(120)}
-    expect_overview("A*", out, Shown(width, height, cells, start, start + 119, settled, list(settled)), 80, by=" by A*")
-    expect("the goal of the claim is another", goal == start + 140)
-    print("tools: overviews of claimed routes, and of A*")
+    print("tools: overviews of claimed routes")
+
+
+def test_overview_of_astar(folder):
+    """The cells that A* has settled, and not those of the plain search; the legend and the file's key name it."""
+    rows = hall_rows(203, 121, random.Random(3))
+    path, drawn = written(folder, "hall.map", text_of_weights(rows)), Path(folder, "astar.svg")
+    for engine in ("astar", "both"):
+        words, shown = asked_on(rows, 0, 203 * 60 - 8, astar=True)
+        out = expect_run([path, *words, "--engine", engine, "--color", "never", "--svg", drawn], 0)
+        expect_overview(f"--engine {engine}", out, shown, 80, by=" by A*")
+        expect_file(f"--engine {engine} as a file", drawn.read_bytes(), shown, "runs")
+        texts = [part.text for part in tree.fromstring(drawn.read_bytes()).iter(f"{SVG}text")]
+        key = f"settled by A*, from cost 0 to cost {max(shown.costs.values())}: the weight's colour, tinted"
+        expect(f"--engine {engine} as a file: whose cells they are", key in texts, texts)
+    print("tools: overviews of A*")
 
 
 def test_cell_by_cell(folder):

@@ -414,7 +414,10 @@ def test_svg(folder):
 
 def test_stored_picture(folder):
     """The pictures that README.md and examples/halls/README.md show are what the front end draws."""
-    for name, words in (("furnace", ["--from", "3,12", "--to", "43,12"]), ("bay", ["--from", "1,10", "--to", "58,11", "--engine", "both"])):
+    for name, words in (
+        ("furnace", ["--from", "3,12", "--to", "43,12"]), ("bay", ["--from", "1,10", "--to", "58,11", "--engine", "both"]),
+        ("works", ["--from", "4,4", "--to", "196,60"]),
+    ):
         drawn = Path(folder, f"{name}.svg")
         expect_run([HALLS / f"{name}.map", *words, "--quiet", "--svg", drawn], 0, ["the picture is in"])
         expect(f"examples/halls/{name}.svg", drawn.read_bytes() == (HALLS / f"{name}.svg").read_bytes())

@@ -129,10 +129,13 @@ def walls_legend(marks, sample, there):
     return line + ([f"{sample(marks.partly, pair)} less than that"] if marks.partly in there else [])
 
 
-def weights_legend(overview, sample):
-    weights = sorted({block.weight for row in overview.rows for block in row} - {0, 1})
-    shades = " ".join(sample(str(weight), weight_colours(weight)) for weight in weights)
-    return [f"{shades} mean weight of the open cells, rounded up"] if weights else []
+def weights_legend(overview, sample, there, colour):
+    """Weights that stand there as digits; in colour those too whose shade is seen."""
+    blocks = [block for row in overview.rows for block in row] if colour else []
+    shades = {block.weight for block in blocks if not (block.letter or block.dots or all(block.walls))}
+    weights = [weight for weight in range(2, 10) if weight in shades or str(weight) in there]
+    named = " ".join(sample(str(weight), weight_colours(weight)) for weight in weights)
+    return [f"{named} mean weight of the open cells, rounded up"] if weights else []
 
 
 def settled_legend(overview, marks, sample, there):
@@ -161,6 +164,6 @@ def picture(view, size, colour, marks):
     there = {character for line in first + (second if twice else []) for character, _ in line}
     lines = [f"overview: a character stands for {overview.factor} x {2 * overview.factor} cells", *framed(overview, first, marks, colour)]
     lines += ["the weights of the same floor", *framed(overview, second, marks, colour)] if twice else []
-    legend = [marks_legend(overview, marks, sample, there), walls_legend(marks, sample, there), weights_legend(overview, sample)]
+    legend = [marks_legend(overview, marks, sample, there), walls_legend(marks, sample, there), weights_legend(overview, sample, there, colour)]
     legend = ["   ".join(line) for line in legend if line] + settled_legend(overview, marks, sample, there)
     return lines + [" " * (MARGIN + 1) + line for line in legend]
