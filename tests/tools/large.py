@@ -643,7 +643,7 @@ def test_stack(folder):
     large, small = (written(folder, f"{width}.map", text_of(["." * width] * SIDE)) for width in (80, 3))
     low = ["-c", 'ulimit -S -s 8192; ulimit -H -s 8192; exec "$@"', "bash", *ASK]
     asked = ["--from", "0,0", "--to", "0,1", "--quiet"]
-    complained = ["a map or a text this large needs a stack of 65536 kB, and the limit here is 8192 kB (ulimit -H -s)", "at most 66000 cells"]
+    complained = ["a map or a text this large needs a stack of 65536 kB, and the limit here is 8192 kB (ulimit -H -s)", "at most 66000 bytes of text"]
     expect_run([*low, large, *asked], 2, [], complained, command=["bash"])
     expect_run([*low, small, *asked], 0, ["found at cost 140 in 1 step"], command=["bash"])
     print("tools: a stack of 64 MiB, or a line that says what is wrong")

@@ -219,7 +219,7 @@ def expect_stack():
     if most != resource.RLIM_INFINITY and most < HALL_STACK:
         raise Trouble(
             f"a map or a text this large needs a stack of {HALL_STACK >> 10} kB, and the limit here is {most >> 10} kB (ulimit -H -s): raise it, in the"
-            f" shell that set it or in /etc/security/limits.conf, or ask about a floor of at most {USUAL_ROOM} cells"
+            f" shell that set it or in /etc/security/limits.conf, or ask about a map of at most {USUAL_ROOM} bytes of text"
         )
 
 
