@@ -47,8 +47,9 @@ one question
   over straight and over diagonal steps; none; stopped, when the limit of settled cells came before the goal, with the
   floor: no route to the goal costs less; refused, with the reason. P and Q are the answer's; if the route has others, that
   is said. The picture shows the floor, the settled cells by cost, and the route, cell by cell; where the map is wider than
-  the terminal less 6 columns, or higher than both {PROGRAM_SIDE} rows and the terminal, a character stands for a block of cells. In the
-  file of --svg a map of more than {PROGRAM_SIDE * PROGRAM_SIDE} cells has no digits and no hints; colours tell. For negative numbers write --from=-1,5.
+  the terminal less 6 columns, or higher than both {PROGRAM_SIDE} rows and the terminal, a character stands for a block of cells. In
+  the file of --svg a map of more than {PROGRAM_SIDE * PROGRAM_SIDE} cells has no digits and no hints; colours tell there. For negative numbers
+  write --from=-1,5.
   --limit is at least 1: with 0 nothing can be settled, and it is refused. Without it the whole map is searched.
 
 two engines

@@ -332,7 +332,7 @@ def overviews():
     """Floors, ends and limits, with the columns and lines in which they are shown."""
     generator = random.Random(3)
     hall, tall, row = hall_rows(203, 121, generator), hall_rows(31, 300, generator), [[1] + [2] * 400]
-    yield "hall", hall, 0, 203 * 60 - 8, None, ((80, 24), (50, 24), (200, 24))
+    yield "hall", hall, 0, 203 * 60 - 8, None, ((74, 24), (50, 24), (200, 24))
     yield "hall", hall, 0, 203 * 60 - 8, 6000, ((80, 24),)
     yield "hall", hall, 203 * 3 + 3, 203 * 3 + 4, None, ((80, 24),)  # both in one block
     yield "hall", hall, 203 * 3 + 3, 203 * 3 + 3, None, ((80, 24),)
