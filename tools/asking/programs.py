@@ -257,7 +257,8 @@ class Calls:
         self.make_ready(max(cells[0], costs[0], -(-work // 2), route[0], text[0]))
         reply = exchange(self.process, sent, sum(lengths))
         if len(reply) != sum(lengths):
-            raise Trouble("the program calls gave no whole reply; 'rt check calls' builds it")
+            status = ended(self.process)
+            raise Trouble(f"the program calls gave no whole reply{f' and ended with status {status}' if status else ''}; 'rt check calls' builds it")
         parts, at = [], 0
         for length in lengths:
             parts.append(reply[at : at + length])
