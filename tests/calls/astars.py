@@ -10,7 +10,7 @@ import random
 
 import searches
 import wire
-from searches import MARK, case_of, drawn
+from searches import HIGH, MARK, WIDE, case_of, drawn
 
 
 # ---- what A* must answer and leave -------------------------------------------------------------------------------------
@@ -236,7 +236,7 @@ def rows_and_columns():
     """The greatest coordinate distances, one of them 0, and a row with a gap."""
     generator = random.Random(4)
     cases = []
-    for length in (2, 3, 40, 256):
+    for length in (2, 3, 40, 257, 1024):
         line = [generator.choice([1, 1, 2, 9]) for _ in range(length)]
         gap = [0 if place == length // 2 else 1 for place in range(length)]
         for cells, start, goal in ((line, 0, length - 1), (line, length - 1, 0), ([1] * length, length // 3, length - 1), (gap, 0, length - 1)):
@@ -247,22 +247,22 @@ def rows_and_columns():
 
 
 def large_floors():
-    """Floors of the greatest side: a settled diagonal, every cell settled by a tie, a detour round blocked cells, a long corridor, and one that is shut."""
+    """Floors of the greatest side that fill the program's rooms: settled diagonal steps, every cell settled by a tie, a detour round blocked cells, a long corridor, and one that is shut."""
     generator = random.Random(256)
-    side, size = 256, 65536
+    size = 65536
     patchy = [0 if generator.random() < 1 / 3 else 1 for _ in range(size)]
-    middle = 128 * side + 128
+    middle = 32 * 1024 + 512
     patchy[0] = patchy[middle] = 1
-    walled = searches.winding(side, 15)
+    walled = searches.winding(*HIGH, 63)
     shut = walled[:]
-    shut[15 * side + side - 1] = 0
+    shut[63 * 64 + 63] = 0
     return [
-        case_of(side, side, 8, [1] * size, 0, size - 1, 0),
-        case_of(side, side, 4, [1] * size, 0, size - 1, 0),
-        case_of(side, side, 8, [9] * size, middle, size - 1, 0),
-        case_of(side, side, 8, patchy, middle, 0, 0),
-        case_of(side, side, 8, walled, 0, size - side, 0, costs=66000, work=132000, route=66000),
-        case_of(side, side, 8, shut, 0, size - side, 0),
+        case_of(*HIGH, 8, [1] * size, 0, size - 1, 0),
+        case_of(*WIDE, 4, [1] * size, 0, size - 1, 0),
+        case_of(*WIDE, 8, [9] * size, middle, size - 1, 0),
+        case_of(*WIDE, 8, patchy, middle, 0, 0),
+        case_of(*HIGH, 8, walled, 0, size - 64, 0, costs=66000, work=132000, route=66000),
+        case_of(*HIGH, 8, shut, 0, size - 64, 0),
     ]
 
 

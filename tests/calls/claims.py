@@ -6,9 +6,10 @@ from a plain search: nothing here is shared with the checks, or done as they do 
 import heapq
 
 import wire
+from paper import GREATEST_SIDE as SIDE
 
 MARK = 4294967295
-SIDE = 256
+OTHER_SIDE = 64  # a floor of the greatest side and this one fills the program's rooms
 DIRECTIONS = [(0, -1, 70), (1, -1, 99), (1, 0, 70), (1, 1, 99), (0, 1, 70), (-1, 1, 99), (-1, 0, 70), (-1, -1, 99)]
 CELLS = {".": 1, "@": 0, "*": 10}
 
@@ -266,6 +267,14 @@ def refusals(claims):
     claims.route("greatest height", Floor("", width=1, height=SIDE, cells=[1]), 0, SIDE - 1, 140 * (SIDE - 1), [4], steps=SIDE - 1, cells=SIDE)
     claims.route("too wide", Floor("", width=SIDE + 1, height=1, cells=[1]), 0, 2, 280, [2, 2], cells=SIDE + 1)
     claims.route("too high", Floor("", width=1, height=SIDE + 1, cells=[1]), 0, 2, 280, [4, 4], cells=SIDE + 1)
+    claims.route("too wide and too high", Floor("", width=SIDE + 1, height=SIDE + 1, cells=[1]), 0, 2, 280, [2, 2], cells=SIDE + 1)
+    claims.route("a row of 257", Floor("", width=257, height=1, cells=[1]), 0, 256, 140 * 256, [2], steps=256, cells=257)
+    claims.route("a column of 257", Floor("", width=1, height=257, cells=[1]), 256, 0, 140 * 256, [0], steps=256, cells=257)
+    claims.route("a row of the greatest side, one cell short", Floor("", width=SIDE, height=1, cells=[1]), 0, 2, 280, [2, 2], cells=SIDE - 1)
+    claims.route("a row of the greatest side, a bad byte at its end", Floor("", width=SIDE, height=1, cells=[1] * (SIDE - 1) + [10]), 0, 2, 280, [2, 2])
+    claims.route("a start after the greatest row", Floor("", width=SIDE, height=1, cells=[1]), SIDE, SIDE, 0, [], cells=SIDE)
+    claims.route("as many steps as the greatest row has cells", Floor("", width=SIDE, height=1, cells=[1]), 0, 0, 140 * SIDE, [2, 6], steps=SIDE, cells=SIDE)
+    claims.route("one step fewer on the greatest row", Floor("", width=SIDE, height=1, cells=[1]), 0, 1, 140 * (SIDE - 1), [2, 6], steps=SIDE - 1, cells=SIDE)
     claims.route("a product that would wrap to nothing", Floor("", width=2**31, height=2, cells=[]), 0, 0, 0, [])
     claims.route("map too short", Floor("", width=2, height=2, cells=[1, 1, 1]), 0, 1, 140, [2])
     claims.route("map too long", Floor("", width=2, height=2, cells=[1, 1, 1, 1, 1]), 0, 1, 140, [2])
@@ -294,12 +303,15 @@ def refusals(claims):
 
 
 def longest_routes(claims):
-    ALL = SIDE * SIDE
-    SNAKE = [2] * (SIDE - 1) + [4] + [6] * (SIDE - 1) + [4]
-    claims.route("a snake through every cell", Floor("", width=SIDE, height=SIDE, cells=[9]), 0, ALL - SIDE, (ALL - 1) * 70 * 18, SNAKE, steps=ALL - 1, cells=ALL)
-    claims.route("the snake to another goal", Floor("", width=SIDE, height=SIDE, cells=[9]), 0, 1, (ALL - 1) * 70 * 18, SNAKE, steps=ALL - 1, cells=ALL)
-    claims.route("the greatest cost of a route", Floor("", width=SIDE, height=SIDE, cells=[9]), 0, SIDE + 1, (ALL - 1) * 99 * 18, [3, 7], steps=ALL - 1, cells=ALL)
-    claims.route("one step more", Floor("", width=SIDE, height=SIDE, cells=[9]), 0, 0, ALL * 99 * 18, [3, 7], steps=ALL, cells=ALL)
+    """On floors that fill the program's rooms, wide and high; `halls` has those of a full hall."""
+    ALL = SIDE * OTHER_SIDE
+    for width, height in (SIDE, OTHER_SIDE), (OTHER_SIDE, SIDE):
+        floor = lambda: Floor("", width=width, height=height, cells=[9])
+        SNAKE = [2] * (width - 1) + [4] + [6] * (width - 1) + [4]
+        claims.route("a snake through every cell", floor(), 0, ALL - width, (ALL - 1) * 70 * 18, SNAKE, steps=ALL - 1, cells=ALL)
+        claims.route("the snake to another goal", floor(), 0, 1, (ALL - 1) * 70 * 18, SNAKE, steps=ALL - 1, cells=ALL)
+        claims.route("the longest route by diagonal steps", floor(), 0, width + 1, (ALL - 1) * 99 * 18, [3, 7], steps=ALL - 1, cells=ALL)
+        claims.route("one step more", floor(), 0, 0, ALL * 99 * 18, [3, 7], steps=ALL, cells=ALL)
 
 
 def tables(claims):
@@ -330,6 +342,9 @@ def tables(claims):
     claims.table("greatest width", Floor("", width=SIDE, height=1, cells=[1]), 0, [140 * x for x in range(SIDE)], cells=SIDE)
     claims.table("greatest height, last entry wrong", Floor("", width=1, height=SIDE, cells=[1]), 0, [140 * y for y in range(SIDE - 1)] + [MARK], cells=SIDE)
     claims.table("too wide", Floor("", width=SIDE + 1, height=1, cells=[1]), 0, [0], cells=SIDE + 1)
+    claims.table("too high", Floor("", width=1, height=SIDE + 1, cells=[1]), 0, [0], cells=SIDE + 1)
+    claims.table("a row of 257", Floor("", width=257, height=1, cells=[1]), 0, [140 * x for x in range(257)], cells=257)
+    claims.table("a row of the greatest side, one entry short", Floor("", width=SIDE, height=1, cells=[1]), 0, [140 * x for x in range(SIDE - 1)], cells=SIDE)
     claims.table("no width", Floor("", width=0, height=1, cells=[]), 0, [])
     claims.table("map too short", Floor("", width=2, height=1, cells=[1]), 0, [0, 140])
     claims.table("a weight ten", Floor("..*"), 0, [0, 140, 280])

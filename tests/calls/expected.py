@@ -1,7 +1,7 @@
 #!/usr/bin/env python3
 """Makes the test of the program `calls`: calls of every entry (crates/calls/stdin) and the replies that are due (crates/calls/stdout).
 
-The replies come from references that follow 01, and 02's R-1 to R-4 and R-6, in another way than the libraries, and share nothing with them; each says how.
+The replies come from references that follow 01, and 02's R-1 to R-4, R-6 and R-7, in another way than the libraries, and share nothing with them; each says how.
 
     expected.py FOLDER      writes FOLDER/stdin and FOLDER/stdout, and FOLDER/calls, which says of each call what it is and how long it and its reply are;
                             prints how many calls there are of each entry, and of each kind of answer

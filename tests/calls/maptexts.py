@@ -1,7 +1,7 @@
 """Map texts to read, to judge and to write, and what is due: from the paper (01, "Map text") alone."""
 import wire
+from paper import GREATEST_SIDE
 
-GREATEST_SIDE = 256
 CELLS = {".": 1, "G": 1, "@": 0, "O": 0, "T": 0}
 CELLS.update({str(n): n for n in range(1, 10)})
 
@@ -24,7 +24,7 @@ def fixed_line(text, start, words, number):
 
 
 def side_line(text, start, word, number):
-    """A side in decimal, 1 to 256, no leading zero, one space before."""
+    """A side in decimal, 1 to 1,024, no leading zero, one space before."""
     end = line_end(text, start)
     if end is None:
         raise Refused(number, start)
@@ -131,12 +131,7 @@ def cases():
     for kind in (b"type tile\n", b"Type octile\n", b"type  octile\n", b"type octile \n", b"type octile\r\n", b" type octile\n", b"type octile", b"\n", b"t"):
         yield 64, text_of(["."], kind=kind)
         yield 64, kind
-    # sides
-    sides = ["0", "00", "01", "001", "007", "0001", "00001", "000256", "257", "258", "260", "300", "999", "1000", "1024", "1025", "2560", "9999", "10000", "65536"]
-    sides += ["4294967297", "18446744073709551617", "999999999999999999999", "1" * 400, "0" * 400 + "1", "", " 1", "1 ", "+1", "-1", "1.", "1x", "x1", "a", "1\r", "1\t", "\t1"]
-    for side in sides:
-        yield 64, text_of(["."], height=side)
-        yield 64, text_of(["."], width=side)
+    yield from headers_of_sides()
     for line in (b"height1\n", b"heigh 1\n", b"Height 1\n", b"height\n", b"height", b"width 1\n", b"\n"):
         yield 64, b"type octile\n" + line + b"width 1\nmap\n.\n"
     for line in (b"width1\n", b"widt 1\n", b"Width 1\n", b"width\n", b"width", b"height 1\n", b"map\n", b"\n"):
@@ -144,20 +139,48 @@ def cases():
     # the fourth line
     for word in (b"mop\n", b"map \n", b"map\r\n", b"map", b"Map\n", b" map\n", b"\n", b""):
         yield 64, text_of(["."], word=word)
-    # one cell, sides of one, two and three digits, the greatest side, and rooms one too short
-    for width, height in ((1, 1), (1, 9), (10, 1), (1, 99), (100, 1), (7, 3), (16, 16), (256, 1), (1, 256)):
-        rows = ["".join("@.23456789GOT1"[(x + 3 * y) % 14] for x in range(width)) for y in range(height)]
-        for room in (512, width * height, width * height - 1):
-            yield room, text_of(rows)
-        yield 512, text_of(rows)[:-1]
-        yield 512, text_of(rows) + b"\n"
-        yield 512, text_of(["".join("@.23456789"[(x + y) % 10] for x in range(width)) for y in range(height)])
+    yield from whole_texts()
     # a late fault: all rows but the last are right
     for last in ("..S", "...x", "..", "..."):
         yield 64, text_of(["123", "456", "789", last], "4", "3") + (b"." if last == "..." else b"")
     # no text
     yield 64, b""
     yield 0, b""
+
+
+# Sides that are 1 to 1,024 or nearly: of one to four digits, above, with zeros before, far above, and with something beside the digits.
+SIDES = ["0", "1", "9", "10", "99", "100", "255", "256", "257", "258", "260", "300", "999", "1000", "1001", "1009", "1010", "1019", "1020", "1023", "1024"]
+SIDES += ["1025", "1026", "1029", "1030", "1034", "1099", "1100", "1124", "1999", "2000", "2024", "2560", "9999", "10000", "10240", "10241", "65536", "66560"]
+SIDES += ["00", "01", "001", "007", "0001", "00001", "0256", "000256", "0999", "01000", "01024", "001024", "01025"]
+SIDES += ["4294967297", "4294968320", "18446744073709551617", "18446744073709552640", "999999999999999999999", "1" * 400, "0" * 400 + "1"]
+SIDES += ["", " 1", "1 ", "+1", "-1", "1.", "1x", "x1", "a", "1\r", "1\t", "\t1"]
+SIDES += ["1024 ", " 1024", "1024\r", "1024x", "1024.", "1024\0", "+1024", "1024 1", "102 4", "1O24", "1,024", "1024\t", "102", "102:", "10/4"]
+
+
+def headers_of_sides():
+    """Each side as height and as width, over one row of one cell: what is taken is 29 in a short room, and in a longer one 25 or 27. Then both at once, with
+    other lines that are wrong too: the first line that is not as it should be is told."""
+    for side in SIDES:
+        for room in (64, GREATEST_SIDE):
+            yield room, text_of(["."], height=side)
+            yield room, text_of(["."], width=side)
+    for height, width in (("1024", "1024"), ("1024", "1025"), ("1025", "1024"), ("1025", "1025"), ("1025", "0"), ("0", "1025"), ("1024", "01024"), ("10240", "1")):
+        for room in (0, 64, wire.LENGTHS["map"]):
+            yield room, text_of(["."], height, width)
+        yield 64, text_of(["."], height, width, kind=b"type tile\n")
+        yield 64, text_of(["."], height, width, word=b"mop\n")
+
+
+def whole_texts():
+    """One cell, sides of one to four digits, the greatest side and the next, and rooms one too short."""
+    longest = 2 * GREATEST_SIDE
+    for width, height in ((1, 1), (1, 9), (10, 1), (1, 99), (100, 1), (7, 3), (16, 16), (257, 1), (1, 257), (999, 1), (1, 1000), (1024, 1), (1, 1024), (1025, 1), (1, 1025)):
+        rows = ["".join("@.23456789GOT1"[(x + 3 * y) % 14] for x in range(width)) for y in range(height)]
+        for room in (longest, width * height, width * height - 1):
+            yield room, text_of(rows)
+        yield longest, text_of(rows)[:-1]
+        yield longest, text_of(rows) + b"\n"
+        yield longest, text_of(["".join("@.23456789"[(x + y) % 10] for x in range(width)) for y in range(height)])
 
 
 def add_calls(made):
@@ -181,8 +204,12 @@ def add_refused_writings(made):
     for width, height, cells, refused in (
         (0, 1, [], (1, 0)),
         (1, 0, [], (1, 0)),
-        (257, 1, [1] * 257, (1, 0)),
-        (1, 257, [10] * 3, (1, 0)),
+        (1025, 1, [1] * 1025, (1, 0)),
+        (1, 1025, [1] * 1025, (1, 0)),
+        (1, 1025, [10] * 3, (1, 0)),
+        (1024, 1, [1] * 1025, (2, 0)),
+        (1, 1024, [10] * 1023, (2, 0)),
+        (1024, 1, [1] * 1023 + [10], (3, 1023)),
         (2, 3, [1] * 5, (2, 0)),
         (2, 3, [1] * 7, (2, 0)),
         (2, 2, [10] * 3, (2, 0)),

@@ -204,7 +204,7 @@ def writing(made, floor, more):
 
 def add_calls(made):
     a, d, l, both = Floor(".@./...", 8), Floor(".../.../...", 4), Floor(".@/@.", 8), Floor(".29/934", 8)
-    wide = Floor("/".join(["." * 256] * 3), 8)
+    wide = Floor("/".join(["." * 1024] * 2), 8)
     wrong = Floor(".@./...", 8)
     wrong.cells = bytes([1, 0, 1, 10, 1, 11])
     table = [0, MARK, 560, 140, 280, 420]
@@ -212,7 +212,7 @@ def add_calls(made):
     search(made, a, 0, 2, 4, 2)
     search(made, d, 0, 8, 9, 1)
     search(made, l, 0, 3, 4, 0)
-    search(made, wide, 300, 5, MARK, 3)
+    search(made, wide, 1024 + 30, 5, MARK, 3)
     search(made, a, 0, 3, 1, 1)
     search(made, both, 0, 5, 6, 0)
     refused_search(made, wrong, 9, (2, 3, 4), 3, 3)

@@ -135,8 +135,28 @@ def texts_of_size():
     yield from (b"x" * 4195, b"x" * 4196, maptexts.text_of(["."]) * 150)
     yield from (maptexts.text_of(rows(64, 1)), maptexts.text_of(rows(1, 64)), wide, high, maptexts.text_of(rows(65, 63)), maptexts.text_of(rows(256, 16, "@")))
     yield from (wide + b"\n", high + b".", wide[:-1], spoiled(wide, 50, b"W"), spoiled(high, 60, b"-"))
-    for height, width in (("64", "65"), ("65", "64"), ("256", "256"), ("17", "241"), ("256", "16"), ("16", "256")):
+    for height, width in (("64", "65"), ("65", "64"), ("256", "256"), ("17", "241"), ("256", "16"), ("16", "256"), *LONG_SIDES):
         yield from (maptexts.text_of(["."], height, width), maptexts.text_of(["S"], height, width))
+
+
+# Sides that only the room, or nothing, keeps from being read, and sides that the reader refuses.
+LONG_SIDES = (("1024", "4"), ("4", "1024"), ("1024", "5"), ("5", "1024"), ("1024", "1024"), ("1025", "1"), ("1", "1025"), ("1024", "1025"), ("1025", "1025"))
+
+
+def beyond_the_program():
+    """R-7: "The program stays at 64", and the reader's side limit rises in it too. Each text with what is due: 14 for a side that the reader takes, whatever the
+    room is, unless its rows are wrong; 22 and 23 from 1,025 on; 14 again where the text is too long, whatever is in it."""
+    text_of = maptexts.text_of
+    for length in (257, 1000, 1024):
+        high, wide = text_of(rows(1, length)), text_of(rows(length, 1))
+        first_cell = len(wide) - length - 1
+        yield from ((high, (14, 0)), (wide, (14, 0)), (wide[:-1], (27, len(wide) - 1)), (spoiled(wide, first_cell, b"S"), (25, first_cell)))
+    high, wide = text_of(rows(1, 1025)), text_of(rows(1025, 1))
+    yield from ((high, (22, 12)), (wide, (23, 21)))
+    # 4,096 cells and fewer in a text that is short enough; texts that are too long by their rows; a refused side in a text that just is not too long, and is
+    yield from ((text_of(rows(1024, 4)), (14, 0)), (text_of(rows(3, 1024)), (14, 0)), (text_of(rows(1024, 5)), (14, 0)), (text_of(rows(4, 1024)), (14, 0)))
+    for length, refused in ((GREATEST_TEXT, (22, 12)), (GREATEST_TEXT + 1, (14, 0))):
+        yield high + b"." * (length - len(high)), refused
 
 
 def spoiled_texts():
@@ -146,8 +166,8 @@ def spoiled_texts():
     yield from (small + further for further in (b"\n", b".", b"\0", b"type octile\n"))
     for word, others in (
         (b"type octile", (b"type tile", b"Type octile", b"type octile ", b"type octile\r")),
-        (b"height 2", (b"height 0", b"height 02", b"height 257", b"height  2", b"height 2 ", b"width 2", b"height " + b"1" * 300)),
-        (b"width 3", (b"width 0", b"width 03", b"width 257", b"width +3", b"width 3\r", b"height 3", b"width 4294967299")),
+        (b"height 2", (b"height 0", b"height 02", b"height 257", b"height 1024", b"height 1025", b"height  2", b"height 2 ", b"width 2", b"height " + b"1" * 300)),
+        (b"width 3", (b"width 0", b"width 03", b"width 257", b"width 1024", b"width 1025", b"width +3", b"width 3\r", b"height 3", b"width 4294967299")),
         (b"map", (b"Map", b"map ", b"mop", b"")),
     ):
         yield from (small.replace(word, other) for other in others)
@@ -157,6 +177,9 @@ def spoiled_texts():
 def maps():
     """Each with two questions, of which a refused map answers none."""
     asked = question(0, 0, 1, 8) + question(0, 1, MARK, 4)
+    for text, refused in beyond_the_program():
+        assert refusal_of(text) == refused, (text[:40], refusal_of(text), refused)
+        yield text, asked, RECORD
     for text in [*texts_of_size(), *spoiled_texts()]:
         yield text, asked, RECORD
 
@@ -282,8 +305,8 @@ def floors(generator):
             yield from ((length, 1, cells, 4, 3), (1, length, cells, 4, 3))
     for width, height in ((9, 9), (31, 17), (63, 63), (64, 64)):
         yield width, height, maze(generator, width, height), 2, 6
-    yield 24, 24, searches.winding(24, 1), 2, 6
-    yield 64, 64, searches.winding(64, 7), 1, 6
+    yield 24, 24, searches.winding(24, 24, 1), 2, 6
+    yield 64, 64, searches.winding(64, 64, 7), 1, 6
     yield 64, 64, [1] * 4096, 1, 8
     yield 64, 64, random_floor(generator, 64, 64, every, 0.3), 2, 6
     yield 63, 64, random_floor(generator, 63, 64, [1, 1, 1, 9], 0.42), 2, 6
@@ -367,7 +390,7 @@ def refused_floors():
     """On small floors the refusals that no question to the program meets, since its map was read and its rooms are long enough; and none, in rooms that just
     suffice: number, width, height, cells, and the lengths of the rooms."""
     cells, enough = [1, 0, 1, 1, 1, 1], (6, 12, 6)
-    yield from ((1, 257, 1, [1] * 257, (257, 514, 257)), (2, 3, 2, cells[:5], enough), (3, 3, 2, [*cells[:5], 10], enough))
+    yield from ((1, 1025, 1, [1] * 1025, (1025, 2050, 1025)), (2, 3, 2, cells[:5], enough), (3, 3, 2, [*cells[:5], 10], enough))
     yield from ((9, 3, 2, cells, (5, 12, 6)), (10, 3, 2, cells, (6, 11, 6)), (11, 3, 2, cells, (6, 12, 5)), (0, 3, 2, cells, enough))
 
 

@@ -10,6 +10,7 @@ All cases that are not listed one by one come from a generator with a fixed seed
 import random
 
 import wire
+from paper import GREATEST_SIDE
 
 MARK = 4294967295
 
@@ -111,7 +112,7 @@ def refusal(case):
     """The lowest number that applies, with its place, or None."""
     width, height, cells = case["width"], case["height"], case["cells"]
     size = width * height
-    if not (1 <= width <= 256 and 1 <= height <= 256):
+    if not (1 <= width <= GREATEST_SIDE and 1 <= height <= GREATEST_SIDE):
         return 1, 0
     if len(cells) != size:
         return 2, 0
@@ -223,17 +224,22 @@ def cases_of_01():
 
 def single_refusals():
     """Each refusal alone, and next to it what is just taken."""
-    row = [1] * 257
+    row = [1] * 1025
     return [
         case_of(0, 3, 8, [], 0, 0, 5),
         case_of(3, 0, 8, [], 0, 0, 5),
         case_of(0, 0, 8, [], 0, 0, 5),
-        case_of(257, 1, 8, row, 0, 256, 300),
-        case_of(1, 257, 8, row, 0, 256, 300),
+        case_of(1025, 1, 8, row, 0, 1024, 1100),
+        case_of(1, 1025, 8, row, 0, 1024, 1100),
+        case_of(1025, 1025, 8, row, 0, 1024, 1100, costs=1025, work=2050, route=1025),
         case_of(MARK, MARK, 8, [], 0, 0, 5, costs=9, work=9, route=9),
         case_of(65536, 65536, 8, [], 0, 0, 5, costs=9, work=9, route=9),
-        case_of(256, 1, 8, row[:256], 0, 255, 300),
-        case_of(1, 256, 8, row[:256], 255, 0, 300),
+        case_of(1024, 1, 8, row[:1024], 0, 1023, 1100),
+        case_of(1, 1024, 8, row[:1024], 1023, 0, 1100),
+        case_of(1024, 1, 8, row[:1023], 0, 1022, 1100),
+        case_of(1024, 1, 8, row, 0, 1023, 1100),
+        case_of(257, 1, 8, row[:257], 0, 256, 300),
+        case_of(1, 257, 8, row[:257], 256, 0, 300),
         case_of(3, 2, 8, [1] * 5, 0, 2, 5),
         case_of(3, 2, 8, [1] * 7, 0, 2, 5),
         case_of(3, 2, 8, [], 0, 2, 5),
@@ -268,14 +274,17 @@ LIMIT_1 = [
     (".@/@.", 0, 3, (2, 1, MARK, 0)),
 ]
 
+# Floors of the greatest side that fill the program's rooms.
+WIDE, HIGH = (1024, 64), (64, 1024)
+
 # Limits that are not 0 and whose lowest byte is.
 LOW_BYTE_0 = (256, 65536, 16777216, 2147483648)
 
 
 def least_limits():
-    """Limit 0, which is refused whatever the search would answer, and limit 1, which is taken; on a floor of the greatest sides too."""
-    side, size = 256, 65536
-    cases = [case_of(side, side, 8, [1] * size, 0, size - 1, limit) for limit in (0, 1)]
+    """Limit 0, which is refused whatever the search would answer, and limit 1, which is taken; on floors of the greatest side too."""
+    size = 65536
+    cases = [case_of(*sides, 8, [1] * size, 0, size - 1, limit) for sides in (WIDE, HIGH) for limit in (0, 1)]
     cases += [drawn(".@./...", 8, 0, 2, limit) for limit in LOW_BYTE_0]
     for picture, start, goal, (kind, *three) in LIMIT_1:
         for ways in (4, 8):
@@ -288,10 +297,10 @@ def least_limits():
 
 def refused_before_15():
     """Limit 0 beside 1, 2 or 3 and nothing else, which `joint_refusals` has not got."""
-    row = [1] * 257
+    row = [1] * 1025
     return [
-        case_of(257, 1, 8, row, 0, 256, 0),
-        case_of(1, 257, 8, row, 256, 0, 0),
+        case_of(1025, 1, 8, row, 0, 1024, 0),
+        case_of(1, 1025, 8, row, 1024, 0, 0),
         case_of(3, 2, 8, [1] * 5, 0, 2, 0),
         case_of(3, 2, 8, [1] * 7, 0, 2, 0),
         drawn(".../...", 8, 0, 2, 0, cells=bytes([1, 1, 1, 1, 1, 10])),
@@ -325,6 +334,7 @@ def joint_refusals():
         cases.append({**spoiled, "cells": bad[:5]})
         cases.append({**spoiled, "cells": bad, "width": 0})
         cases.append({**spoiled, "height": 300})
+        cases.append({**spoiled, "height": 1025})
     return cases
 
 
@@ -360,7 +370,7 @@ def longer_rooms():
 def rows_and_columns():
     generator = random.Random(4)
     cases = []
-    for length in (2, 3, 7, 40, 255, 256):
+    for length in (2, 3, 7, 40, 256, 257, 1023, 1024):
         cells = [generator.choice([1, 1, 2, 5, 9]) for _ in range(length)]
         gap = cells[:]
         gap[length // 2] = 0
@@ -447,34 +457,35 @@ def there_and_back():
     return cases
 
 
-def winding(side, thick):
+def winding(width, height, thick):
     """One corridor that winds from the top to the bottom, `thick` cells wide; each of its stretches has its own weight."""
-    cells = [1 + cell // side // (thick + 1) % 9 for cell in range(side * side)]
-    for wall, y in enumerate(range(thick, side - 1, thick + 1)):
-        for x in range(side):
-            if x != (side - 1 if wall % 2 == 0 else 0):
-                cells[y * side + x] = 0
+    cells = [1 + cell // width // (thick + 1) % 9 for cell in range(width * height)]
+    for wall, y in enumerate(range(thick, height - 1, thick + 1)):
+        for x in range(width):
+            if x != (width - 1 if wall % 2 == 0 else 0):
+                cells[y * width + x] = 0
     return cells
 
 
 def large_floors():
+    """Floors of the greatest side that fill the program's rooms, wide and high; `halls` has full halls."""
     generator = random.Random(256)
-    side, size = 256, 65536
+    size = 65536
     patchy = [0 if generator.random() < 1 / 3 else generator.randint(1, 9) for _ in range(size)]
-    middle = 128 * side + 128
+    middle = 32 * 1024 + 512
     for cell in (0, middle, size - 1):
         patchy[cell] = 1
     limits = (1, 1000, 65536, MARK)
-    cases = [case_of(side, side, 8, [1] * size, middle, size - 1, limit) for limit in limits]
-    cases += [case_of(side, side, 8, [9] * size, 0, size - 1, limit) for limit in limits]
+    cases = [case_of(*WIDE, 8, [1] * size, middle, size - 1, limit) for limit in limits]
+    cases += [case_of(*HIGH, 8, [9] * size, 0, size - 1, limit) for limit in limits]
     for limit, goal in zip(limits, (0, size - 1, 0, size - 1)):
-        cases.append(case_of(side, side, 8, patchy, middle, goal, limit))
-    cases.append(case_of(side, side, 4, patchy, middle, size - 1, 40000))
-    cases.append(case_of(side, side, 4, [9] * size, 0, size - 1, 65535))
-    walled = winding(side, 15)
-    cases.append(case_of(side, side, 8, walled, 0, size - side, MARK, costs=66000, work=132000, route=66000))
-    walled[15 * side + side - 1] = 0
-    cases.append(case_of(side, side, 8, walled, 0, size - side, 65536))
+        cases.append(case_of(*WIDE, 8, patchy, middle, goal, limit))
+    cases.append(case_of(*HIGH, 4, patchy, middle, size - 1, 40000))
+    cases.append(case_of(*WIDE, 4, [9] * size, 0, size - 1, 65535))
+    walled = winding(*HIGH, 63)
+    cases.append(case_of(*HIGH, 8, walled, 0, size - 64, MARK, costs=66000, work=132000, route=66000))
+    walled[63 * 64 + 63] = 0
+    cases.append(case_of(*HIGH, 8, walled, 0, size - 64, 65536))
     return cases
 
 
