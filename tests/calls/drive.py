@@ -12,12 +12,11 @@ import logs
 import plain
 import wire
 
-FOLDER, COMMAND = Path(sys.argv[1]), sys.argv[2:]
 LONG = 600  # seconds that no run takes
 
 
-def run(calls):
-    return subprocess.run(COMMAND, input=b"".join(calls), stdout=subprocess.PIPE, timeout=LONG, check=False).stdout
+def run(command, calls):
+    return subprocess.run(command, input=b"".join(calls), stdout=subprocess.PIPE, timeout=LONG, check=False).stdout
 
 
 def numbers(data):
@@ -31,20 +30,27 @@ def words(call, reply):
     return "numbers %s, rooms %s" % (numbers(reply[:rooms]), reply[rooms:].hex(" "))
 
 
-def compare(made, calls, due, output):
-    for place, (about, size, length) in enumerate(made):
-        call, calls = calls[:size], calls[size:]
-        reply, due = due[:length], due[length:]
-        got, output = output[:length], output[length:]
+def stored(folder):
+    """Each call that expected.py made: what it is, its bytes, and the reply that is due."""
+    calls, due = (memoryview((folder / name).read_bytes()) for name in ("stdin", "stdout"))
+    for about, size, length in json.loads((folder / "calls").read_text()):
+        yield about, calls[:size], due[:length]
+        calls, due = calls[size:], due[length:]
+
+
+def compare(made, output):
+    output = memoryview(output)
+    for place, (about, call, reply) in enumerate(made):
+        got, output = output[: len(reply)], output[len(reply) :]
         if got != reply:
             sys.exit(f"calls: call {place} differs: {about}\n  head {numbers(call[:72])}\n  due {words(call, reply)}\n  got {words(call, got)}")
     if output:
         sys.exit(f"calls: {len(output)} bytes were written beyond the replies")
 
 
-def endings():
-    """Calls that end the program: none of them, and nothing after it, gets a reply."""
-    made = wire.Wire()
+def endings(lengths):
+    """Calls that end a program with rooms of these lengths: none of them, and nothing after it, gets a reply."""
+    made = wire.Wire(lengths)
     plain.search(made, plain.Floor(".@./...", 8), 0, 2, 5, 0)
     plain.route_claim(made, plain.Floor(".@./...", 8), 0, 2, 560, [4, 2, 2, 0])
     (_, first, due), (_, second, _) = made.made
@@ -52,7 +58,7 @@ def endings():
     for what in (0, len(wire.ENTRIES) + 1, 4294967295):
         yield f"the unknown call {what}", [first, with_number(0, what), first], due
     for place, name in enumerate(wire.ROOMS):
-        for length in (wire.LENGTHS[name] + 1, 4294967295):
+        for length in (lengths[name] + 1, 4294967295):
             yield f"a room for {name} of {length}", [first, with_number(8 + 2 * place, length), first], due
     for place, name in ((0, "map"), (3, "route")):
         length = second[32 + 8 * place]
@@ -65,16 +71,20 @@ def endings():
         yield f"an input that ends after {length} bytes of a call", [first, second[:length]], due
 
 
-def main():
-    made = json.loads((FOLDER / "calls").read_text())
-    calls, due = (memoryview((FOLDER / name).read_bytes()) for name in ("stdin", "stdout"))
-    compare(made, calls, due, memoryview(run([calls])))
-    print(f"calls: {len(made)} calls, answered as due")
-    tried = list(endings())
+def try_endings(command, lengths):
+    tried = list(endings(lengths))
     for name, calls, due in tried:
-        if run(calls) != due:
+        if run(command, calls) != due:
             sys.exit(f"calls: {name} does not end the program")
     print(f"calls: {len(tried)} calls that end the program, or end in the middle")
+
+
+def main():
+    folder, command = Path(sys.argv[1]), sys.argv[2:]
+    made = list(stored(folder))
+    compare(made, run(command, [call for _, call, _ in made]))
+    print(f"calls: {len(made)} calls, answered as due")
+    try_endings(command, wire.LENGTHS)
 
 
 if __name__ == "__main__":

@@ -26,6 +26,7 @@ WORDS = {
 WHOLE, DIGEST = 0, 1
 ROOMS = ("map", "costs", "work", "route", "text")
 LENGTHS = {"map": 66000, "costs": 66000, "work": 132000, "route": 66000, "text": 66000}
+HALL_LENGTHS = {"map": 1050000, "costs": 1050000, "work": 2100000, "route": 1050000, "text": 1050000}  # of the program started with a word
 NUMBERS = ("costs", "work")
 
 # What a room holds before a call, unless a case says otherwise.
@@ -34,7 +35,7 @@ OLD_COST, OLD_WORK, OLD_BYTE = [123456789], [987654321], [200]
 # How many numbers a reply begins with; those that an answer does not have are 0.
 FRONT = 8
 
-# A longer reply is asked for as a digest: the rooms of the greatest floor are near a megabyte.
+# A longer reply is asked for as a digest: the rooms of a full hall are above 14 megabytes.
 LONGEST_WHOLE = 300
 
 
@@ -50,6 +51,12 @@ def outcome(what, numbers):
     return WORDS[what][numbers[0]] + (" %d" % numbers[1] if numbers[1] else "")
 
 
+def repeated(given, length):
+    """What is given, up to a room's length."""
+    whole, rest = divmod(length, len(given))
+    return given * whole + given[:rest] if rest else given * whole
+
+
 def digest(reply):
     return packed([len(reply), zlib.adler32(reply)])
 
@@ -57,8 +64,8 @@ def digest(reply):
 class Wire:
     """The calls made so far with their replies, and what is in the program's rooms after them."""
 
-    def __init__(self):
-        self.rooms = {name: [0] * length for name, length in LENGTHS.items()}
+    def __init__(self, lengths=LENGTHS):
+        self.rooms = {name: [0] * length for name, length in lengths.items()}
         self.made = []  # what a call is, the call, its reply
         self.outcomes = {name: Counter() for name in ENTRIES.values()}
 
@@ -77,7 +84,7 @@ class Wire:
             given = given[:length]
             room = self.rooms[name]
             if given:
-                room[:length] = (list(given) * (length // len(given) + 1))[:length]
+                room[:length] = repeated(list(given), length)
             lengths += [length, len(given)]
             bodies.append(packed(given, name))
             lent[name] = room[:length]

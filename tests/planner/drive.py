@@ -9,7 +9,7 @@ import selectors
 import subprocess
 import sys
 
-from expected import MARK, RECORD, ZEROS, fresh_answers, maptexts, not_zero, old_question, output, question
+from expected import MARK, RECORD, ZEROS, beyond_the_program, fresh_answers, maptexts, not_zero, old_question, output, question
 from starting import COMMAND, LONG, compare, in_folder, run
 
 import sums  # one of tests/calls, where expected.py looks
@@ -49,7 +49,7 @@ def refused_texts():
     # each line of the header, and texts that end in it
     yield from (good[:length] for length in range(len(good)))
     yield from (b"type octal\n" + good[12:], b" " + good, good.replace(b"\n", b"\r\n"))
-    for word, others in ((b"height 2", (b"height 0", b"height 02", b"height 257", b"width 2", b"height  2")), (b"width 3", (b"width 0", b"width 300", b"width +3"))):
+    for word, others in ((b"height 2", (b"height 0", b"height 02", b"height 257", b"height 1025", b"width 2", b"height  2")), (b"width 3", (b"width 0", b"width 300", b"width 1025", b"width +3"))):
         yield from (good.replace(word, other) for other in others)
     yield from (good.replace(b"map", b"Map"), good.replace(b"height 2", b"height " + b"1" * 300))
     # 29 comes before the rows, and a side above 64 after them
@@ -59,6 +59,14 @@ def refused_texts():
     # faults in the rows, and a further byte
     yield from (spoiled(good, place, byte) for place in range(33, 41) for byte in (b"W", b"\n", b".", b"0", b"\r"))
     yield from (good + b"\n", good + b".", good[:-1])
+
+
+def sides_beyond():
+    """R-7: "The program stays at 64", and the reader's side limit rises in it too: what is due is written out, and the reference must say the same."""
+    for text, (number, place) in beyond_the_program():
+        due = b"map refused %d at %d\n" % (number, place)
+        assert output(text, b"") == due, text[:80]
+        yield text, due
 
 
 # ---- maps that can ------------------------------------------------------------------------------------------------------------
@@ -125,10 +133,13 @@ def maps_that_cannot_be_used():
     texts = list(refused_texts())
     for text in texts:
         try_text(text, records)
+    beyond = list(sides_beyond())
+    for text, due in beyond:
+        in_folder(text, lambda folder: compare(text[:80], run(folder, records), due))
     missing = b"map missing\n"
     in_folder(None, lambda folder: compare("no file", run(folder, records), missing))
     numbers = sorted({int(output(text, b"").split()[2]) for text in texts if output(text, b"")})
-    print(f"planner: {len(texts)} texts, refused as {', '.join(map(str, numbers))}; map missing")
+    print(f"planner: {len(texts)} texts, refused as {', '.join(map(str, numbers))}; {len(beyond)} with sides around 1,024; map missing")
 
 
 def maps_that_can():

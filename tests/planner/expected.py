@@ -1,7 +1,7 @@
 #!/usr/bin/env python3
 """Makes the program's test: its map (crates/planner/data/floor.map), question records (stdin) and the answers due (stdout).
 
-How the expectation is produced: by the reference of the desk (tests/calls/records.py), which follows 01, "The program", R-2, R-3 and R-6.
+How the expectation is produced: by the reference of the desk (tests/calls/records.py), which follows 01, "The program", R-2, R-3, R-6 and R-7.
 Nothing comes from the program or its libraries.
 
     expected.py FOLDER      writes FOLDER/floor.map, FOLDER/stdin and FOLDER/stdout, and prints how many questions there are
@@ -11,7 +11,7 @@ from pathlib import Path
 
 sys.path.insert(0, str(Path(__file__).resolve().parent.parent / "calls"))
 import maptexts
-from records import EXAMPLE_ANSWER, EXAMPLE_QUESTION, MARK, RECORD, ZEROS, fresh_answers, not_zero, old_question, question, refusal_of
+from records import EXAMPLE_ANSWER, EXAMPLE_QUESTION, MARK, RECORD, ZEROS, beyond_the_program, fresh_answers, not_zero, old_question, question, refusal_of
 
 
 def output(text, records):
