@@ -1,4 +1,4 @@
-//! Calls of the program `calls` (crates/calls/src/main.rt has the form), and the replies that 01, R-1 to ask for.
+//! Calls of the program `calls` (crates/calls/src/main.rt has the form), and the replies that 01, R-1 to ask for.
 
 use crate::astar::astar;
 use crate::claims::{check_route, check_table, RouteVerdict, TableVerdict};
@@ -152,7 +152,8 @@ impl Call {
     }
 
     pub fn reply_length(&self) -> usize {
-        FRONT + self.before().bytes().len()
+        let [map, costs, work, route, text] = self.before().lengths();
+        FRONT + map + 4 * costs + 4 * work + route + text
     }
 
     /// The numbers at the front of a whole reply, and the rooms as it has them.

@@ -129,17 +129,17 @@ fn searched(call: &Call) -> (Answer, Rooms) {
     (answer, rooms)
 }
 
-/// "Side 256 taken, 257 refused 1; byte 9 taken, 10 refused 3; start and goal both blocked, 7."
+/// "Side 256 taken, 257 refused 1", which R-7 moves to 1,024 and 1,025; "byte 9 taken, 10 refused 3; start and goal both blocked, 7."
 fn refused_or_taken() -> Vec<Call> {
     let row = |length: usize| drawn(What::Search, &".".repeat(length), 8, 0, 0, 1);
     let mut ten = drawn(What::Search, "9", 8, 0, 0, 1);
     ten.map[0] = 10;
     let blocked = drawn(What::Search, "@", 8, 0, 0, 1);
-    assert_eq!(searched(&row(256)).0, found(1, 0, 0, 0, 0));
-    assert_eq!(searched(&row(257)).0, refused(1));
+    assert_eq!(searched(&row(1024)).0, found(1, 0, 0, 0, 0));
+    assert_eq!(searched(&row(1025)).0, refused(1));
     assert_eq!(searched(&ten).0, refused(3));
     assert_eq!(searched(&blocked).0, refused(7));
-    vec![row(256), row(257), ten, blocked]
+    vec![row(1024), row(1025), ten, blocked]
 }
 
 /// "In l the claimed route 3 is fault 44 at 0; a's table with 210 made 209 breaks first at cell 2"; R-3: "the check examples double".

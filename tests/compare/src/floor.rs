@@ -1,6 +1,9 @@
-//! The floor of 01: directions, the step rule with R-3's cost, and the refusals 1 to 8. All numbers are 64 bits wide here, so that nothing wraps.
+//! The floor of 01: directions, the step rule with R-3's cost, and the refusals 1 to 8 with R-7's greatest side. All numbers are 64 bits wide here, so that nothing wraps.
 
 pub const MARK: u32 = 4_294_967_295;
+
+/// "Sides go to 1,024, in the library, the text and refusals 1, 22 and 23."
+pub const GREATEST_SIDE: u64 = 1024;
 
 /// dx, dy, unit: 01's table of eight rows.
 const DIRECTIONS: [(i64, i64, u64); 8] = [
@@ -15,7 +18,7 @@ const DIRECTIONS: [(i64, i64, u64); 8] = [
 ];
 
 /// "A map's width, height and ways travel together as one value." Any numbers may stand in it.
-#[derive(Clone, Copy, Debug)]
+#[derive(Clone, Copy, Debug, PartialEq)]
 pub struct Floor {
     pub width: u64,
     pub height: u64,
@@ -91,8 +94,10 @@ impl Floor {
 
     /// Refusals 1 to 3: all but the reader give them.
     pub fn refused_map(&self, map: &[u8]) -> Option<Refusal> {
-        if self.width == 0 || self.height == 0 || self.width > 256 || self.height > 256 {
-            return refusal(1, 0);
+        for side in [self.width, self.height] {
+            if side == 0 || side > GREATEST_SIDE {
+                return refusal(1, 0);
+            }
         }
         if map.len() as u64 != self.cells() {
             return refusal(2, 0);

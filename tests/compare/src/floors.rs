@@ -1,5 +1,6 @@
 //! Random floors, and floors on which routes of one cost differ in P and Q.
 
+use crate::floor::GREATEST_SIDE;
 use crate::random::Random;
 
 /// A map that passes 1 to 3.
@@ -18,6 +19,33 @@ pub fn any_floor(random: &mut Random, greatest: u64) -> Drawn {
         2 => (greatest, random.between(1, greatest)),
         _ => (random.between(1, greatest), random.between(1, greatest)),
     };
+    floor_of_sides(random, width as u32, height as u32)
+}
+
+/// How many cells a large floor has that is no hall, at most.
+const LARGE: u64 = 65536;
+
+/// A floor of up to so many cells, of which a side may be the greatest.
+pub fn large_floor(random: &mut Random) -> Drawn {
+    if random.once_in(3) {
+        return any_floor(random, 256);
+    }
+    let long = random.between(257, GREATEST_SIDE);
+    let long = random.one_of(&[GREATEST_SIDE, GREATEST_SIDE - 1, long]);
+    let other = random.between(1, LARGE / long);
+    let (width, height) = random.one_of(&[(long, other), (other, long)]);
+    floor_of_sides(random, width as u32, height as u32)
+}
+
+/// A full hall, or one that is nearly as large.
+pub fn hall(random: &mut Random) -> Drawn {
+    let other = random.between(257, GREATEST_SIDE);
+    let (width, height) = random.one_of(&[
+        (GREATEST_SIDE, GREATEST_SIDE),
+        (GREATEST_SIDE, GREATEST_SIDE),
+        (GREATEST_SIDE, other),
+        (other, GREATEST_SIDE),
+    ]);
     floor_of_sides(random, width as u32, height as u32)
 }
 

@@ -141,10 +141,10 @@ fn good_question(random: &mut Random, scene: &Scene, what: What) -> Call {
     call.work_room = 2 * cells + longer(random);
     call.byte_room = cells + longer(random);
     if random.once_in(300) {
-        // the whole rooms of the program
-        call.costs_room = 66000;
-        call.work_room = 132000;
-        call.byte_room = 66000;
+        // far longer than most floors need
+        call.costs_room = call.costs_room.max(66000);
+        call.work_room = call.work_room.max(132000);
+        call.byte_room = call.byte_room.max(66000);
     }
     call
 }
@@ -190,7 +190,7 @@ pub fn any_too_large(random: &mut Random) -> Call {
 /// A map with a side just too large, or just not, and of the right length for its sides.
 pub fn too_large(random: &mut Random, what: What) -> Call {
     let mut call = Call::of(what);
-    let (long, other) = (random.one_of(&[256, 257]), random.between(1, 256) as u32);
+    let (long, other) = (random.one_of(&[1024, 1025]), random.between(1, 64) as u32);
     let sides = random.one_of(&[(long, other), (other, long)]);
     call.width = sides.0;
     call.height = sides.1;
@@ -204,7 +204,7 @@ pub fn too_large(random: &mut Random, what: What) -> Call {
             call.byte_room = cells;
         }
         What::TableClaim => call.table = vec![0; cells],
-        What::WriteMap => call.byte_room = 66000,
+        What::WriteMap => call.byte_room = 70000,
         _ => (),
     }
     call
@@ -225,7 +225,7 @@ pub fn spoil(random: &mut Random, call: &mut Call) {
 }
 
 fn spoil_sides(random: &mut Random, call: &mut Call) {
-    let side = random.one_of(&[0, 1, 2, 255, 256, 257, 65536, MARK]);
+    let side = random.one_of(&[0, 1, 2, 256, 257, 1023, 1024, 1025, 65536, MARK]);
     match random.below(3) {
         0 => call.width = side,
         1 => call.height = side,
@@ -259,7 +259,7 @@ pub fn wild_cell(random: &mut Random, cells: usize) -> u32 {
     match random.below(6) {
         0 => cells as u32,
         1 => cells as u32 + 1,
-        2 => random.one_of(&[MARK, 65535, 65536, 1 << 31]),
+        2 => random.one_of(&[MARK, 65535, 65536, (1 << 20) - 1, 1 << 20, 1 << 31]),
         _ => random.below(cells + 1) as u32,
     }
 }
@@ -487,5 +487,13 @@ pub fn writing(random: &mut Random, drawn: &Drawn) -> Call {
     }
     let text = crate::maptext::text_of(drawn.width as u64, drawn.height as u64, &drawn.map);
     call.byte_room = about(random, text.len());
+    call
+}
+
+/// A text to be read, with a cell room of this length.
+pub fn reading(text: Vec<u8>, room: usize) -> Call {
+    let mut call = Call::of(What::ReadMap);
+    call.byte_room = room;
+    call.text = text;
     call
 }

@@ -1,4 +1,4 @@
-//! Compares the proved programs with an independent planner, written from 01 and 02's alone, on random inputs.
+//! Compares the proved programs with an independent planner, written from 01 and 02's alone, on random inputs.
 //!
 //!     compare SEED COUNT FOLDER CALLS PLANNER [START..]
 //!
@@ -33,15 +33,19 @@ use std::path::PathBuf;
 use std::process::ExitCode;
 
 use calls::{Call, What};
-use floors::{any_floor, Drawn};
+use floors::Drawn;
 use generate::Scene;
+use floor::MARK;
 use log::{read_entry, write_entry, Entry};
 use pipes::Calls;
 use planner::Planner;
 use random::Random;
 
-/// Every so many rounds the floor has sides up to 256.
+/// Every so many rounds the floor is a large one.
 const LARGE: u64 = 50;
+
+/// Every so many rounds there is a hall beside the floor.
+const HALL: u64 = 500;
 
 /// Every so many rounds the planner is run.
 const PLANNER: u64 = 3;
@@ -171,6 +175,9 @@ impl Comparison {
         if round % TIE == 0 {
             self.compare_tie(random)?;
         }
+        if round % HALL == HALL / 2 {
+            self.hall_round(random)?;
+        }
         Ok(())
     }
 
@@ -205,9 +212,28 @@ impl Comparison {
         self.compare_texts(random, &drawn)
     }
 
-    /// On a floor of up to 256 × 256 cells the plain planner takes its time: fewer questions.
+    /// On a full hall each side takes a second or more: a question of each kind.
+    fn hall_round(&mut self, random: &mut Random) -> Result<(), Differs> {
+        let drawn = floors::hall(random);
+        let scene = Scene::of(random, &drawn);
+        let limit = random.one_of(&scene.limits());
+        self.compare(&generate::good_search(random, &scene, MARK))?;
+        self.compare(&generate::good_search(random, &scene, limit))?;
+        self.compare(&generate::wild_question(random, &scene, What::Search))?;
+        let aimed = generate::good_astar(&mut self.aims, &scene);
+        self.compare_astar(&aimed)?;
+        self.compare(&generate::route_claim(random, &scene))?;
+        self.compare_table(random, &scene)?;
+        let text = texts::good_text(random, &drawn);
+        for text in [texts::torn_text(random, &drawn), text] {
+            self.compare(&generate::reading(text, drawn.map.len()))?;
+        }
+        self.compare(&generate::writing(random, &drawn))
+    }
+
+    /// On a floor of 65,536 cells the plain planner takes its time: fewer questions.
     fn large_round(&mut self, random: &mut Random) -> Result<(), Differs> {
-        let drawn = any_floor(random, 256);
+        let drawn = floors::large_floor(random);
         let scene = Scene::of(random, &drawn);
         for limit in [
             random.one_of(&scene.limits()),
@@ -248,11 +274,9 @@ impl Comparison {
             texts.push(texts::edge_text(random));
         }
         for text in texts {
-            let mut call = Call::of(What::ReadMap);
             let cells = drawn.map.len();
-            call.byte_room = random.one_of(&[cells, cells, cells + 2, cells - 1, 4096, 65536]);
-            call.text = text;
-            self.compare(&call)?;
+            let room = random.one_of(&[cells, cells, cells + 2, cells - 1, 4096, 65536]);
+            self.compare(&generate::reading(text, room))?;
         }
         self.compare(&generate::writing(random, drawn))
     }

@@ -1,6 +1,6 @@
 //! Map text as 01 has it: the reader and the writer.
 
-use crate::floor::{Floor, Refusal};
+use crate::floor::{Floor, Refusal, GREATEST_SIDE};
 
 /// A map that was read.
 #[derive(Clone, Debug, PartialEq)]
@@ -26,11 +26,11 @@ fn words(text: &[u8], from: usize, wanted: &[u8]) -> Option<usize> {
     None
 }
 
-/// A line of a word and a side: "decimal, 1 to 256, no leading zero, one space before".
+/// A line of a word and a side: "decimal, 1 to 256", since R-7 1 to 1,024, "no leading zero, one space before".
 fn side(text: &[u8], from: usize, word: &[u8]) -> Option<(u64, usize)> {
     let (found, next) = line(text, from)?;
     let digits = found.strip_prefix(word)?;
-    if digits.is_empty() || digits.len() > 3 || digits[0] == b'0' {
+    if digits.is_empty() || digits.len() > 4 || digits[0] == b'0' {
         return None;
     }
     let mut value = 0;
@@ -40,7 +40,7 @@ fn side(text: &[u8], from: usize, word: &[u8]) -> Option<(u64, usize)> {
         }
         value = 10 * value + (digit - b'0') as u64;
     }
-    if value > 256 {
+    if value > GREATEST_SIDE {
         return None;
     }
     Some((value, next))

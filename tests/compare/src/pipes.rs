@@ -10,7 +10,7 @@ use std::time::Duration;
 use crate::calls::Call;
 use crate::program::RECORD;
 
-/// How long an answer may take. Under an emulator the longest search takes a second or two.
+/// How long an answer may take. Under an emulator the longest search, on a full hall, takes a few seconds.
 const PATIENCE: Duration = Duration::from_secs(60);
 
 /// A running program. What it writes is taken by a thread, so that neither side waits for the other with a full pipe.
@@ -23,16 +23,16 @@ struct Running {
 
 impl Running {
     /// `start` is how a program is started here: nothing, or an emulator and a loader with its words.
-    fn start(start: &[String], program: &str, folder: &Path) -> Running {
+    fn start(start: &[String], program: &[&str], folder: &Path) -> Running {
         let mut words = start.to_vec();
-        words.push(program.to_string());
+        words.extend(program.iter().map(|word| word.to_string()));
         let mut child = Command::new(&words[0])
             .args(&words[1..])
             .current_dir(folder)
             .stdin(Stdio::piped())
             .stdout(Stdio::piped())
             .spawn()
-            .unwrap_or_else(|error| panic!("{} cannot be started: {}", program, error));
+            .unwrap_or_else(|error| panic!("{} cannot be started: {}", program[0], error));
         let mut output = child.stdout.take().expect("its output is a pipe");
         let (sender, pieces) = channel();
         thread::spawn(move || {
@@ -78,6 +78,9 @@ impl Running {
     }
 }
 
+/// The word that gives the program `calls` the rooms of full halls.
+const HALL: &str = "hall";
+
 /// The program `calls`: one process that answers call after call.
 pub struct Calls {
     start: Vec<String>,
@@ -98,7 +101,7 @@ impl Calls {
     pub fn ask(&mut self, call: &Call) -> Vec<u8> {
         let mut running = match self.running.take() {
             Some(running) => running,
-            None => Running::start(&self.start, &self.program, Path::new(".")),
+            None => Running::start(&self.start, &[&self.program, HALL], Path::new(".")),
         };
         running.send(&call.request());
         let reply = running.take(call.reply_length());
@@ -136,7 +139,7 @@ pub fn run_planner(
     input: &[u8],
     sending: &Sending,
 ) -> Vec<u8> {
-    let mut running = Running::start(start, program, folder);
+    let mut running = Running::start(start, &[program], folder);
     let mut output = Vec::new();
     match sending {
         Sending::Pieces(sizes) => {

@@ -1,9 +1,11 @@
 //! What a difference looks like, and how its input is made smaller before it is printed.
 
+use std::iter::successors;
+use std::ops::Range;
 use std::time::{Duration, Instant};
 
 use crate::calls::{Call, What};
-use crate::floor::MARK;
+use crate::floor::{GREATEST_SIDE, MARK};
 use crate::log::can_be_logged;
 use crate::program::{number, RECORD};
 
@@ -14,55 +16,72 @@ const PATIENCE: Duration = Duration::from_secs(20);
 pub fn shrunk(call: &Call, differs: &mut dyn FnMut(&Call) -> bool) -> Call {
     let mut best = call.clone();
     let begun = Instant::now();
-    'again: loop {
-        for smaller in smaller_calls(&best) {
-            if begun.elapsed() > PATIENCE {
-                return best;
-            }
-            if differs(&smaller) {
-                best = smaller;
-                continue 'again;
-            }
+    loop {
+        let found = smaller_calls(&best)
+            .take_while(|_| begun.elapsed() <= PATIENCE)
+            .find(|smaller| differs(smaller));
+        match found {
+            Some(smaller) => best = smaller,
+            None => return best,
         }
-        return best;
     }
 }
 
-fn smaller_calls(call: &Call) -> Vec<Call> {
+/// They are made one after the other: all of them together would be far too many bytes for a hall.
+type Calls<'a> = Box<dyn Iterator<Item = Call> + 'a>;
+
+fn smaller_calls(call: &Call) -> Calls<'_> {
     match call.what {
         What::ReadMap | What::ReadEntry => return shorter_texts(call),
         What::WriteEntry => return plainer_entries(call),
         _ => (),
     }
-    let mut calls = Vec::new();
-    if call.map.len() as u64 == call.floor().cells() {
-        for y in 0..call.height {
-            calls.extend(without(call, |_, row| row == y, 0, 1));
-        }
-        for x in 0..call.width {
-            calls.extend(without(call, |column, _| column == x, 1, 0));
-        }
-    }
-    calls.extend(shorter_routes(call));
+    let mut others = Vec::new();
     if call.what == What::Search || call.what == What::Astar {
-        calls.extend(just_enough(call));
+        others.extend(just_enough(call));
     }
     if call.what == What::Search {
         for limit in [call.limit / 2, call.limit.saturating_sub(1)] {
             if limit < call.limit {
                 let mut earlier = call.clone();
                 earlier.limit = limit;
-                calls.push(earlier);
+                others.push(earlier);
             }
         }
     }
     if call.map.len() <= 36 {
-        calls.extend(plainer_maps(call));
+        others.extend(plainer_maps(call));
     }
-    calls
+    let others = shorter_routes(call).chain(others);
+    if call.map.len() as u64 == call.floor().cells() {
+        return Box::new(smaller_floors(call).chain(others));
+    }
+    Box::new(others)
 }
 
-/// The call without some row or column, unless the start or the goal lies in it.
+/// Stretches of so many places: all of them, their halves, and so on to single ones.
+fn stretches(places: usize) -> impl Iterator<Item = Range<usize>> {
+    let sizes = successors(Some(places), |size| Some(size / 2)).take_while(|size| *size > 0);
+    sizes.flat_map(move |size| {
+        let ends = move |from: usize| from..(from + size).min(places);
+        (0..places).step_by(size).map(ends)
+    })
+}
+
+/// The call without some rows or columns beside each other.
+fn smaller_floors(call: &Call) -> impl Iterator<Item = Call> + '_ {
+    let rows = stretches(call.height as usize).filter_map(move |gone| {
+        let count = gone.len() as u32;
+        without(call, |_, row| gone.contains(&(row as usize)), 0, count)
+    });
+    let columns = stretches(call.width as usize).filter_map(move |gone| {
+        let count = gone.len() as u32;
+        without(call, |column, _| gone.contains(&(column as usize)), count, 0)
+    });
+    rows.chain(columns)
+}
+
+/// The call without some rows or columns, so many, unless the start or the goal lies in one.
 fn without(call: &Call, gone: impl Fn(u32, u32) -> bool, columns: u32, rows: u32) -> Option<Call> {
     let is_gone = |cell: u32| gone(cell % call.width, cell / call.width);
     let cells = call.map.len() as u32;
@@ -123,46 +142,38 @@ fn plainer_maps(call: &Call) -> Vec<Call> {
     calls
 }
 
-fn shorter_routes(call: &Call) -> Vec<Call> {
-    let mut calls = Vec::new();
-    for place in 0..call.route.len() {
+/// Routes with a stretch cut out.
+fn shorter_routes(call: &Call) -> impl Iterator<Item = Call> + '_ {
+    stretches(call.route.len()).map(move |gone| {
         let mut shorter = call.clone();
-        shorter.route.remove(place);
-        calls.push(shorter);
-    }
-    calls
+        shorter.route.drain(gone);
+        shorter
+    })
 }
 
-/// Entries for the log with a direction less, or with one byte of question or answer made 0; then those with a shorter room.
-fn plainer_entries(call: &Call) -> Vec<Call> {
-    let mut calls = shorter_routes(call);
-    for place in 0..call.map.len() {
-        if call.map[place] != 0 {
-            let mut plainer = call.clone();
-            plainer.map[place] = 0;
-            calls.push(plainer);
-        }
-    }
-    calls.extend(shorter_rooms(call));
-    calls
+/// Entries for the log with fewer directions, or with one byte of question or answer made 0; then those with a shorter room.
+fn plainer_entries(call: &Call) -> Calls<'_> {
+    let not_zero = (0..call.map.len()).filter(move |place| call.map[*place] != 0);
+    let plainer = not_zero.map(move |place| {
+        let mut plainer = call.clone();
+        plainer.map[place] = 0;
+        plainer
+    });
+    Box::new(
+        shorter_routes(call)
+            .chain(plainer)
+            .chain(shorter_rooms(call)),
+    )
 }
 
-/// Texts with a stretch cut out, the longer stretches first.
-fn shorter_texts(call: &Call) -> Vec<Call> {
-    let mut calls = Vec::new();
-    let mut stretch = call.text.len();
-    while stretch > 0 {
-        for from in (0..call.text.len()).step_by(stretch) {
-            let mut shorter = call.clone();
-            shorter
-                .text
-                .drain(from..(from + stretch).min(call.text.len()));
-            calls.push(shorter);
-        }
-        stretch /= 2;
-    }
-    calls.extend(shorter_rooms(call));
-    calls
+/// Texts with a stretch cut out; then those with a shorter room.
+fn shorter_texts(call: &Call) -> Calls<'_> {
+    let shorter = stretches(call.text.len()).map(move |gone| {
+        let mut shorter = call.clone();
+        shorter.text.drain(gone);
+        shorter
+    });
+    Box::new(shorter.chain(shorter_rooms(call)))
 }
 
 fn shorter_rooms(call: &Call) -> Vec<Call> {
@@ -239,7 +250,7 @@ fn print_floor(call: &Call) {
 
 pub fn print_map(width: u32, map: &[u8]) {
     println!("map of {} bytes:", map.len());
-    for row in map.chunks(width.clamp(1, 256) as usize) {
+    for row in map.chunks(width.clamp(1, GREATEST_SIDE as u32) as usize) {
         let mut line = String::new();
         for weight in row {
             match weight {

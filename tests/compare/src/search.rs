@@ -1,5 +1,7 @@
 //! The search of 01 and 02's, from their definitions: least costs, the list L, the first route with its two sums, and the table of answers.
 
+use std::cell::RefCell;
+
 use crate::floor::{both_weights, is_diagonal, refusal, Floor, Refusal, MARK};
 
 /// The three lent rooms.
@@ -29,28 +31,30 @@ pub enum Answer {
     },
 }
 
-/// The least cost of each cell from the start, or nothing for a cell that no route reaches: every step is tried again and again, onwards
-/// and backwards through the cells, until no cost changes.
-pub fn least_costs(floor: Floor, map: &[u8], start: u64) -> Vec<Option<u64>> {
+/// The least cost of each cell from the start, or nothing for a cell that no route reaches: every step out of a cell whose cost became less is tried,
+/// again and again, until no cost becomes less.
+fn tried_costs(floor: Floor, map: &[u8], start: u64) -> Vec<Option<u64>> {
     let mut costs = vec![None; map.len()];
     costs[start as usize] = Some(0);
-    loop {
-        let mut changed = false;
-        for cell in 0..floor.cells() {
-            changed |= take_steps(floor, map, cell, &mut costs);
+    let mut lowered = vec![start];
+    while !lowered.is_empty() {
+        let mut next = Vec::new();
+        for cell in lowered {
+            take_steps(floor, map, cell, &mut costs, &mut next);
         }
-        for cell in (0..floor.cells()).rev() {
-            changed |= take_steps(floor, map, cell, &mut costs);
-        }
-        if !changed {
-            return costs;
-        }
+        lowered = next;
     }
+    costs
 }
 
-/// Takes every step out of one cell. Says whether a cost became less.
-fn take_steps(floor: Floor, map: &[u8], cell: u64, costs: &mut [Option<u64>]) -> bool {
-    let mut changed = false;
+/// Takes every step out of one cell, and lists the cells whose cost became less.
+fn take_steps(
+    floor: Floor,
+    map: &[u8],
+    cell: u64,
+    costs: &mut [Option<u64>],
+    lowered: &mut Vec<u64>,
+) {
     if let Some(cost) = costs[cell as usize] {
         for direction in 0..8 {
             if let Some((entered, step)) = floor.allowed_step(map, cell, direction) {
@@ -58,12 +62,32 @@ fn take_steps(floor: Floor, map: &[u8], cell: u64, costs: &mut [Option<u64>]) ->
                 let known = costs[entered as usize];
                 if known.is_none() || known > Some(sum) {
                     costs[entered as usize] = Some(sum);
-                    changed = true;
+                    lowered.push(entered);
                 }
             }
         }
     }
-    changed
+}
+
+/// A floor, its map, a start, and the least costs from there.
+type Known = (Floor, Vec<u8>, u64, Vec<Option<u64>>);
+
+thread_local! {
+    static LAST: RefCell<Option<Known>> = RefCell::new(None);
+}
+
+/// The least costs, which are kept for the next question: most are about the floor and the start of the one before, and a full hall takes its time.
+pub fn least_costs(floor: Floor, map: &[u8], start: u64) -> Vec<Option<u64>> {
+    LAST.with(|last| {
+        if let Some((known_floor, known_map, known_start, costs)) = &*last.borrow() {
+            if (*known_floor, &known_map[..], *known_start) == (floor, map, start) {
+                return costs.clone();
+            }
+        }
+        let costs = tried_costs(floor, map, start);
+        *last.borrow_mut() = Some((floor, map.to_vec(), start, costs.clone()));
+        costs
+    })
 }
 
 /// L: "the list of cells reachable from the start, the start included, sorted by least cost from the start and, at equal cost, by cell number".

@@ -61,7 +61,7 @@ fn with_cr(text: Vec<u8>) -> Vec<u8> {
     torn
 }
 
-/// A side in the header that is not a decimal number from 1 to 256, or not the side of the rows.
+/// A side in the header that is not a decimal number from 1 to 1,024, or not the side of the rows.
 fn other_side(random: &mut Random, drawn: &Drawn) -> Vec<u8> {
     let sides = [
         "0",
@@ -82,10 +82,21 @@ fn other_side(random: &mut Random, drawn: &Drawn) -> Vec<u8> {
         "255",
         "256",
         "257",
-        "258",
+        "0256",
         "300",
         "999",
         "1000",
+        "1009",
+        "1023",
+        "1024",
+        "1025",
+        "1030",
+        "1100",
+        "2000",
+        "9999",
+        "01024",
+        "10240",
+        "1024 ",
         "65536",
         "65539",
         "4294967296",
@@ -143,7 +154,7 @@ fn other_header(random: &mut Random, drawn: &Drawn) -> Vec<u8> {
     text
 }
 
-/// Texts around the program's own edges: 4,195 and 4,196 bytes, sides 64 and 65, 256 and 257.
+/// Texts around the edges: 4,195 and 4,196 bytes, sides 64 and 65, 1,024 and 1,025.
 pub fn edge_text(random: &mut Random) -> Vec<u8> {
     let whole = |height: u32, width: u32| {
         let map = vec![1; (width * height) as usize];
@@ -158,18 +169,20 @@ pub fn edge_text(random: &mut Random) -> Vec<u8> {
             text
         }
         2 => whole(64, 64),
-        3 => whole(1, random.one_of(&[63, 64, 65, 255, 256])),
-        4 => whole(random.one_of(&[63, 64, 65, 255, 256]), 1),
+        3 => whole(1, random.one_of(&[63, 64, 65, 256, 257, 1023, 1024, 1025])),
+        4 => whole(random.one_of(&[63, 64, 65, 256, 257, 1023, 1024, 1025]), 1),
         5 => whole(65, random.between(1, 63) as u32),
         6 => whole(random.between(1, 63) as u32, 65),
         _ => {
             let sides = [
-                (1, 257),
-                (257, 1),
+                (1, 1025),
+                (1025, 1),
                 (16, 256),
                 (256, 16),
-                (256, 17),
-                (2, 256),
+                (4, 1024),
+                (1024, 3),
+                (1024, 4),
+                (2, 1025),
             ];
             let (height, width) = random.one_of(&sides);
             let rows = vec![b'.'; (height * (width + 1)) as usize];
