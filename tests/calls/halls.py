@@ -313,12 +313,14 @@ def longest_claims(made):
 
 
 def ties(made):
-    """Weight 1 from corner to corner: with four ways every cell lies on some least-cost route, with eight only those of the diagonal do."""
+    """Weight 1 from corner to corner: with four ways every cell lies on some least-cost route, with eight only those of the diagonal do. Then a limit at half of
+    the cells, in the middle of the 1,024 that lie as far from the start as from the goal: the lower numbers are settled."""
     for ways, settled in ((4, SIZE), (8, SIDE)):
         hall = Hall(made, f"open, {ways} ways", of_open_hall(1, ways, 0))
         assert hall.astar(SIZE - 1, **WHOLE_ROOMS)[3] == settled
         if ways == 4:
             hall.search(SIZE - 1, SIZE)
+            assert hall.search(SIZE - 1, SIZE // 2)[3:5] == [SIZE // 2, 140 * (SIDE - 1)]
 
 
 def walled(made):

@@ -33,9 +33,9 @@ use std::path::PathBuf;
 use std::process::ExitCode;
 
 use calls::{Call, What};
+use floor::MARK;
 use floors::Drawn;
 use generate::Scene;
-use floor::MARK;
 use log::{read_entry, write_entry, Entry};
 use pipes::Calls;
 use planner::Planner;

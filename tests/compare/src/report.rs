@@ -76,7 +76,12 @@ fn smaller_floors(call: &Call) -> impl Iterator<Item = Call> + '_ {
     });
     let columns = stretches(call.width as usize).filter_map(move |gone| {
         let count = gone.len() as u32;
-        without(call, |column, _| gone.contains(&(column as usize)), count, 0)
+        without(
+            call,
+            |column, _| gone.contains(&(column as usize)),
+            count,
+            0,
+        )
     });
     rows.chain(columns)
 }
