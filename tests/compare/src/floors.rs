@@ -42,8 +42,8 @@ pub fn hall(random: &mut Random) -> Drawn {
     let other = random.between(257, GREATEST_SIDE);
     let (width, height) = random.one_of(&[
         (GREATEST_SIDE, GREATEST_SIDE),
-        (GREATEST_SIDE, GREATEST_SIDE),
         (GREATEST_SIDE, other),
+        (GREATEST_SIDE, GREATEST_SIDE),
         (other, GREATEST_SIDE),
     ]);
     floor_of_sides(random, width as u32, height as u32)

@@ -225,7 +225,8 @@ impl Comparison {
         self.compare(&generate::route_claim(random, &scene))?;
         self.compare_table(random, &scene)?;
         let text = texts::good_text(random, &drawn);
-        for text in [texts::torn_text(random, &drawn), text] {
+        for mut text in [texts::torn_text(random, &drawn), text] {
+            text.truncate(pipes::LONGEST_TEXT);
             self.compare(&generate::reading(text, drawn.map.len()))?;
         }
         self.compare(&generate::writing(random, &drawn))

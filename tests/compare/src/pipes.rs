@@ -81,6 +81,9 @@ impl Running {
 /// The word that gives the program `calls` the rooms of full halls.
 const HALL: &str = "hall";
 
+/// The longest text that it then takes. The text of a full hall is shorter, but not with CR before each LF.
+pub const LONGEST_TEXT: usize = 1_050_000;
+
 /// The program `calls`: one process that answers call after call.
 pub struct Calls {
     start: Vec<String>,
