@@ -247,7 +247,8 @@ def rows_and_columns():
 
 
 def large_floors():
-    """Floors of the greatest side that fill the program's rooms: settled diagonal steps, every cell settled by a tie, a detour round blocked cells, a long corridor, and one that is shut."""
+    """Floors of the greatest side that fill the program's rooms: open ones, every cell settled by a tie, a detour round blocked cells, a long corridor, and one
+    that is shut."""
     generator = random.Random(256)
     size = 65536
     patchy = [0 if generator.random() < 1 / 3 else 1 for _ in range(size)]

@@ -103,30 +103,36 @@ def text_of(rows, height=None, width=None, kind=b"type octile\n", word=b"map\n")
     return head + b"".join(row.encode() + b"\n" for row in rows)
 
 
-def cases():
+def examples():
+    """The paper's example, as it is and torn."""
     small = text_of([".@.", "..."])
     assert len(small) == 41
-    # the paper's example, with rooms that are long enough, just so, and too short
+    # with rooms that are long enough, just so, and too short
     for room in (64, 7, 6, 5, 0):
         yield room, small
-    # the example cut at every length, and with a further byte
+    # cut at every length, and with a further byte
     for length in range(len(small)):
         yield 64, small[:length]
     for further in (b"\n", b".", b"\0", b"type"):
         yield 64, small + further
-    # every cell character, and every byte where a cell is due
-    yield 64, text_of(["@.23456789", "OTG1.@@@@@"])
-    yield 64, text_of(["GGG1", "TOTO"])
+    # every byte where a cell is due
     for byte in range(256):
         yield 64, small[:33] + bytes([byte]) + small[34:]
     # every byte where LF is due
     for byte in range(256):
         yield 64, small[:36] + bytes([byte]) + small[37:]
+    yield 64, small.replace(b"\n", b"\r\n")
+
+
+def cases():
+    yield from examples()
+    # every cell character
+    yield 64, text_of(["@.23456789", "OTG1.@@@@@"])
+    yield 64, text_of(["GGG1", "TOTO"])
     # S and W of the benchmark, lower case, CR LF, short and long rows
     for row in ("S..", "..W", "g..", "o..", "t..", "0..", ":..", "..\r", "...\r", "..", "....", ""):
         yield 64, text_of([row, "..."], "2", "3")
         yield 64, text_of(["...", row], "2", "3")
-    yield 64, small.replace(b"\n", b"\r\n")
     # the first line
     for kind in (b"type tile\n", b"Type octile\n", b"type  octile\n", b"type octile \n", b"type octile\r\n", b" type octile\n", b"type octile", b"\n", b"t"):
         yield 64, text_of(["."], kind=kind)
@@ -174,7 +180,8 @@ def headers_of_sides():
 def whole_texts():
     """One cell, sides of one to four digits, the greatest side and the next, and rooms one too short."""
     longest = 2 * GREATEST_SIDE
-    for width, height in ((1, 1), (1, 9), (10, 1), (1, 99), (100, 1), (7, 3), (16, 16), (257, 1), (1, 257), (999, 1), (1, 1000), (1024, 1), (1, 1024), (1025, 1), (1, 1025)):
+    sides = [(1, 1), (1, 9), (10, 1), (1, 99), (100, 1), (7, 3), (16, 16), (257, 1), (1, 257), (999, 1), (1, 1000)]
+    for width, height in [*sides, (1024, 1), (1, 1024), (1025, 1), (1, 1025)]:
         rows = ["".join("@.23456789GOT1"[(x + 3 * y) % 14] for x in range(width)) for y in range(height)]
         for room in (longest, width * height, width * height - 1):
             yield room, text_of(rows)

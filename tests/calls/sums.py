@@ -166,8 +166,8 @@ def slanting(side, thick):
 
 
 def long_routes():
-    """Between two corners of a square floor that fills the program's rooms: 43,350 straight steps, over two thirds of its cells, and 16,001 diagonal ones among 16,511. There, back, and
-    with a limit that stops the search just before the goal."""
+    """Between two corners of a square floor that fills the program's rooms: 43,350 straight steps, over two thirds of its cells, and 16,001 diagonal ones among
+    16,511. There, back, and with a limit that stops the search just before the goal."""
     side, size = 256, 65536
     for thick, due in ((2, (780300, 0)), (3, (9180, 288018))):
         there = case_of(side, side, 8, slanting(side, thick), size - side, side - 1, MARK)
