@@ -212,7 +212,7 @@ impl Comparison {
         self.compare_texts(random, &drawn)
     }
 
-    /// On a full hall each side takes a second or more: a question of each kind.
+    /// A full hall takes seconds: few questions of each kind.
     fn hall_round(&mut self, random: &mut Random) -> Result<(), Differs> {
         let drawn = floors::hall(random);
         let scene = Scene::of(random, &drawn);

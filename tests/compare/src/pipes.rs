@@ -10,7 +10,7 @@ use std::time::Duration;
 use crate::calls::Call;
 use crate::program::RECORD;
 
-/// How long an answer may take. Under an emulator the longest search, on a full hall, takes a few seconds.
+/// How long an answer may take. Under an emulator a search on a full hall takes a second or two.
 const PATIENCE: Duration = Duration::from_secs(60);
 
 /// A running program. What it writes is taken by a thread, so that neither side waits for the other with a full pipe.
