@@ -452,7 +452,7 @@ def main():
                 part(made)
             program.stdin.close()
         except BrokenPipeError:
-            print("calls: the program ended before the calls did; with the rooms of a hall it needs a stack of 64 MiB, which tools/start asks for")
+            print("calls: the program ended before the calls did; with the rooms of a hall it needs a stack of 32 MiB, which tools/start asks for")
         output = program.stdout.read()
     drive.compare(made.made, output)
     print(f"calls: {len(made.made)} calls about full halls, answered as due")

@@ -456,9 +456,11 @@ def expect_colours(what, colours, keys, shown, has_costs=True):
 
 
 def visited_by(path, shown):
-    """The cells that a path of moves passes, one after the other."""
+    """The cells that a path of moves passes, one after the other; none if it does not lead through their middles."""
     head = re.match(r"M([\d.]+) ([\d.]+)", path)
     x, y = (float(number) - 0.5 for number in head.groups())
+    if not (x.is_integer() and y.is_integer()):
+        return []
     cells = [int(y) * shown.width + int(x)]
     for letter, first, second in re.findall(r"([hvl])(-?\d+)(?: (-?\d+))?", path):
         dx, dy = (int(first), 0) if letter == "h" else (0, int(first)) if letter == "v" else (int(first), int(second))
@@ -634,16 +636,16 @@ def test_rooms(folder):
 
 
 def test_stack(folder):
-    """tools/start asks for a stack of 64 MiB, and goes on where that is not allowed; the front end then says what is wrong with a large map."""
+    """tools/start asks for a stack of 32 MiB, and goes on where that is not allowed; the front end then says what is wrong with a large map."""
     start = [str(TESTED / "tools" / "start"), "calls"]
     env = with_programs(folder, "telling", "ulimit -S -s")
-    for limits, due in (("ulimit -S -s 8192", 65536), ("ulimit -S -s unlimited", 65536), ("ulimit -S -s 8192; ulimit -H -s 8192", 8192)):
+    for limits, due in (("ulimit -S -s 8192", 32768), ("ulimit -S -s unlimited", 32768), ("ulimit -S -s 8192; ulimit -H -s 8192", 8192)):
         ended, out, err = run(["-c", f'{limits}; exec "$@"', "bash", *start], command=["bash"], env=env)
         expect(f"the stack with {limits}", (ended, out, err) == (0, f"{due}\n", ""), f"{ended} {out}{err}")
     large, small = (written(folder, f"{width}.map", text_of(["." * width] * SIDE)) for width in (80, 3))
     low = ["-c", 'ulimit -S -s 8192; ulimit -H -s 8192; exec "$@"', "bash", *ASK]
     asked = ["--from", "0,0", "--to", "0,1", "--quiet"]
-    complained = ["a map or a text this large needs a stack of 65536 kB, and the limit here is 8192 kB (ulimit -H -s)", "at most 66000 bytes of text"]
+    complained = ["a map or a text this large needs a stack of 32768 kB, and the limit here is 8192 kB (ulimit -H -s)", "at most 66000 bytes of text"]
     expect_run([*low, large, *asked], 2, [], complained, command=["bash"])
     expect_run([*low, small, *asked], 0, ["found at cost 140 in 1 step"], command=["bash"])
-    print("tools: a stack of 64 MiB, or a line that says what is wrong")
+    print("tools: a stack of 32 MiB, or a line that says what is wrong")

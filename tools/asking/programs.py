@@ -25,7 +25,7 @@ MOST_CELLS = MOST_SIDE * MOST_SIDE
 MOST_TEXT = 1050000
 # the most cells, directions and bytes of text in a call of `calls`; for more it is started as `calls hall`, which needs this stack (tools/start)
 USUAL_ROOM = 66000
-HALL_STACK = 64 << 20
+HALL_STACK = 32 << 20
 # the program's
 PROGRAM_SIDE = 64
 PROGRAM_TEXT = 4195
