@@ -31,7 +31,7 @@
 // A call from C hands on what the entry of its library answers, so that it stands here for both.
 //
 // The rooms lie on the stack. Started without an argument, the program has rooms that fit the stack which a process usually has; started with one, whatever it
-// says, it has rooms for the greatest floor, and needs a stack of more than 16 MB (tools/start asks for 64 MiB).
+// says, it has rooms for the greatest floor, and needs a stack of more than 16 MB (tools/start asks for one).
 //
 // Each reply is written before the next call is read. An unknown `what`, a room longer than the program's, a map room that has no place for two records where
 // they go there, more given than a room's length, and an input that ends inside a call end the program.

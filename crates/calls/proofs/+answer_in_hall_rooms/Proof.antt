@@ -49,10 +49,10 @@ slice-aggregate-answer-calls-6 : (t : ℕ) → lts.Need-slice-aggregate-answer-c
 slice-aggregate-answer-calls-6 t c = sym (length-replicate {A = ℕ} 65536 0)
 
 answer-calls-requires : (t : ℕ) → lts.Need-answer-calls-requires (hall-below t, hall.Post, calls.Asked, calls.Learnt) (hall-at t) hall.Post
-answer-calls-requires t c κs = search needs
+answer-calls-requires t c κs = tt
 
 returns : (t : ℕ) → lts.Need-returns (hall-below t, hall.Post, calls.Asked, calls.Learnt) (hall-at t) hall.Post
-returns t c = search needs
+returns t c = tt
 
 pub +answer-in-hall-rooms-spec : {M : Type 1} → statement M
 +answer-in-hall-rooms-spec =
