@@ -1,6 +1,6 @@
 /*
- * What the tests of the calls share: a count of what was tried and of what was wrong. It needs no header of the C library,
- * so that the tests also build where only the kit's compiler makes programs for x86-64.
+ * What the tests of the calls share: a count of what was tried and of what was wrong, and bytes compared. It needs no header of
+ * the C library, so that the tests also build where only the kit's compiler makes programs for x86-64.
  */
 #ifndef FRADNUMBER_TESTS_EXPECT_H
 #define FRADNUMBER_TESTS_EXPECT_H
@@ -29,6 +29,14 @@ static inline void expect_claim(const char *what, uint64_t answer, uint32_t numb
         printf("%s: %lu, %lu and not %lu, %lu\n", what, (unsigned long)fradnumber_number_of(answer),
                (unsigned long)fradnumber_value_of(answer), (unsigned long)number, (unsigned long)value);
     }
+}
+
+static inline int same(const uint8_t *bytes, const uint8_t *others, size_t length)
+{
+    size_t i;
+    for (i = 0; i < length; i++)
+        if (bytes[i] != others[i]) return 0;
+    return 1;
 }
 
 /* The last line of a test, and its exit status. */

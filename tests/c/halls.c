@@ -26,14 +26,6 @@ static int is_old(const void *bytes, size_t length)
     return 1;
 }
 
-static int same(const uint8_t *bytes, const uint8_t *others, size_t length)
-{
-    size_t i;
-    for (i = 0; i < length; i++)
-        if (bytes[i] != others[i]) return 0;
-    return 1;
-}
-
 #define BESIDE_IS_OLD(lent) (is_old((lent).before, sizeof (lent).before) && is_old((lent).after, sizeof (lent).after))
 
 static void fill_rooms(void)

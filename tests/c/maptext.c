@@ -26,14 +26,6 @@ static int is_old(const uint8_t *bytes, size_t from)
     return 1;
 }
 
-static int same(const uint8_t *bytes, const uint8_t *others, size_t length)
-{
-    size_t i;
-    for (i = 0; i < length; i++)
-        if (bytes[i] != others[i]) return 0;
-    return 1;
-}
-
 static void clear(uint8_t *bytes)
 {
     size_t i;

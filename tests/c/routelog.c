@@ -34,14 +34,6 @@ static struct fradnumber_answer refused(uint64_t refusal)
     return answer;
 }
 
-static int same(const uint8_t *bytes, const uint8_t *others, size_t length)
-{
-    size_t i;
-    for (i = 0; i < length; i++)
-        if (bytes[i] != others[i]) return 0;
-    return 1;
-}
-
 /* The bytes from `from` to `to` are all this one. */
 static int all(const uint8_t *bytes, size_t from, size_t to, uint8_t byte)
 {

@@ -18,6 +18,8 @@ ROUTE, START, GOAL, WRONG, INK = "#1f7a3a", "#1d4ed8", "#7e22ce", "#c81e1e", "#4
 ENDS = {"S": START, "G": GOAL, "!": WRONG}
 # Letters in the middle of a height; not every viewer knows baselines.
 MIDDLE = 'dy=".35em"'
+# a route's line
+JOINED = 'fill="none" stroke-linejoin="round" stroke-linecap="round" pointer-events="none"'
 
 STYLE = (
     "text{font-family:'DejaVu Sans',Verdana,Arial,sans-serif;fill:#222}"
@@ -108,9 +110,12 @@ class Drawing:
     def cells(self):
         return [cell for row in self.view.rows() for cell in row]
 
+    def step_of_scale(self):
+        """How many cells lie between two numbers at the edge."""
+        return 5 if max(self.view.floor.width, self.view.floor.height) > 10 else 1
+
     def add_scale(self):
-        floor, size = self.view.floor, self.size
-        step = 5 if max(floor.width, floor.height) > 10 else 1
+        floor, size, step = self.view.floor, self.size, self.step_of_scale()
         for x in range(0, floor.width, step):
             self.add(f'<text class="scale" x="{LEFT + (x + 0.5) * size:g}" y="{self.top - 5}" text-anchor="middle">{x}</text>')
         for y in range(0, floor.height, step):
@@ -121,11 +126,10 @@ class Drawing:
         if not self.view.route_cells:
             return
         points = " ".join("{:g},{:g}".format(*self.centre(cell)) for cell in self.view.route_cells)
-        joined = 'fill="none" stroke-linejoin="round" stroke-linecap="round" pointer-events="none"'
         line = min(self.size * 0.24, 6)
         # a pale edge keeps the line apart from the dots and from warm floor
-        self.add(f'<polyline class="edge" points="{points}" {joined} stroke="#ffffff" stroke-width="{line * 1.7:.1f}"/>')
-        self.add(f'<polyline class="route" points="{points}" {joined} stroke="{ROUTE}" stroke-width="{line:.1f}"/>')
+        self.add(f'<polyline class="edge" points="{points}" {JOINED} stroke="#ffffff" stroke-width="{line * 1.7:.1f}"/>')
+        self.add(f'<polyline class="route" points="{points}" {JOINED} stroke="{ROUTE}" stroke-width="{line:.1f}"/>')
 
     def add_end(self, x, y, radius, letter, colour):
         self.add(f'<circle class="{letter}" cx="{x:g}" cy="{y:g}" r="{radius:.1f}" fill="{colour}" stroke="#fff" pointer-events="none"/>')

@@ -10,7 +10,7 @@ import struct
 import zlib
 from itertools import groupby
 
-from asking.drawing import FLOOR, LEFT, MIDDLE, ROUTE, WHOLE, Drawing, shade
+from asking.drawing import FLOOR, JOINED, LEFT, ROUTE, WHOLE, Drawing, shade
 from asking.programs import DIRECTIONS, MARK
 
 SHADES = 16
@@ -127,24 +127,17 @@ class LargeDrawing(Drawing):
         sharp = 'image-rendering="optimizeSpeed" style="image-rendering:pixelated"'
         self.add(f'<image class="cells" {place} {sharp} xmlns:xlink="http://www.w3.org/1999/xlink" xlink:href="data:image/png;base64,{data}"/>')
 
-    def add_scale(self):
-        floor, size = self.view.floor, self.size
-        step = next(step for step in STEPS_OF_SCALE if step * size >= BETWEEN_NUMBERS)
-        for x in range(0, floor.width, step):
-            self.add(f'<text class="scale" x="{LEFT + (x + 0.5) * size:g}" y="{self.top - 5}" text-anchor="middle">{x}</text>')
-        for y in range(0, floor.height, step):
-            middle = self.top + (y + 0.5) * size
-            self.add(f'<text class="scale" x="{LEFT - 6}" y="{middle:g}" {MIDDLE} text-anchor="end">{y}</text>')
+    def step_of_scale(self):
+        return next(step for step in STEPS_OF_SCALE if step * self.size >= BETWEEN_NUMBERS)
 
     def add_route(self):
         """One path, which may have a million steps; so there is no second one for a pale edge."""
         if not self.view.route_cells:
             return
         y, x = divmod(self.view.start, self.view.floor.width)
-        joined = 'fill="none" stroke-linejoin="round" stroke-linecap="round" pointer-events="none"'
         line = max(min(self.size * 0.24, 6), LEAST_LINE) / self.size
         path = f"M{x + 0.5:g} {y + 0.5:g}{moves(self.view.route)}"
-        self.add(f'<path class="route" {self.in_cells()} d="{path}" {joined} stroke="{ROUTE}" stroke-width="{line:g}"/>')
+        self.add(f'<path class="route" {self.in_cells()} d="{path}" {JOINED} stroke="{ROUTE}" stroke-width="{line:g}"/>')
 
     def add_weights(self):
         """No digits: the colours tell."""
