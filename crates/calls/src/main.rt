@@ -36,7 +36,7 @@
 // Each reply is written before the next call is read. An unknown `what`, a room longer than the program's, a map room that has no place for two records where
 // they go there, more given than a room's length, and an input that ends inside a call end the program.
 mod replies; // replies.rt: how a reply goes out
-mod wire; // wire.rt: numbers in bytes, and rooms filled
+mod wire; // wire.rt: numbers in bytes, rooms filled, and pieces
 
 ghost use Prim.Native.Nat.{_≤_};
 use answering::AnswerNumbers;

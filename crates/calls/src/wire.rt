@@ -1,4 +1,4 @@
-// What goes over the wire: numbers of four bytes, the lowest first, and rooms that are filled from what is given.
+// What goes over the wire: numbers of four bytes, the lowest first, rooms that are filled from what is given, and what is put into a piece that goes out.
 ghost use Prim.Native.Nat.{_≤_, _<_};
 use libc::STDIN_FILENO;
 
@@ -83,6 +83,7 @@ fn read_numbers(room: &mut [u32], bytes: &mut [u8]) -> bool {
     true
 }
 
+// Repeats the first entries up to the room's end.
 fn repeat_numbers(room: &mut [u32], given: usize) {
     if given == 0 {
         return;
