@@ -1,5 +1,6 @@
 // What every search answers, and what it does with the rooms lent to it before and after: refusals 1 to 11, a room filled, an answer in numbers.
 // A part that the engines share and no entry. specs/Answers.antt says what an answer is, specs/Rooms.antt what becomes of the rooms.
+#![tactic(auto)]
 
 pub mod numbers; // numbers.rt: an answer as the paper's numbers
 pub mod rooms; // rooms.rt: refusals 1 to 11, and a room filled
@@ -7,7 +8,7 @@ pub mod rooms; // rooms.rt: refusals 1 to 11, and a room filled
 use floor::RouteLength;
 
 // What a search answers: 01's table.
-#[derive(Drop)]
+#[derive(Clone, Copy)]
 pub enum Answer {
     // the refusal's number and place
     Refused(u32, usize),
@@ -21,7 +22,7 @@ pub enum Answer {
 
 // An answer in numbers, for callers from C: `numbers_of` in specs/Answers.antt.
 #[repr(C)]
-#[derive(Drop)]
+#[derive(Clone, Copy)]
 pub struct AnswerNumbers {
     pub kind: u64,
     pub refusal: u64,

@@ -35,6 +35,8 @@
 //
 // Each reply is written before the next call is read. An unknown `what`, a room longer than the program's, a map room that has no place for two records where
 // they go there, more given than a room's length, and an input that ends inside a call end the program.
+#![tactic(auto)]
+
 mod replies; // replies.rt: how a reply goes out
 mod wire; // wire.rt: numbers in bytes, rooms filled, and pieces
 
@@ -73,7 +75,7 @@ const NUMBERS: usize = 8;
 const WIRE: usize = 4 * PIECE;
 
 // The head of a call, up to its rooms.
-#[derive(Drop)]
+#[derive(Clone, Copy)]
 struct Question {
     what: u32,
     form: u32,
@@ -87,14 +89,14 @@ struct Question {
 }
 
 // What the head says of one room.
-#[derive(Drop)]
+#[derive(Clone, Copy)]
 struct Room {
     length: usize,
     given: usize,
 }
 
 // How many entries each room is given.
-#[derive(Drop)]
+#[derive(Clone, Copy)]
 struct Given {
     map: usize,
     costs: usize,

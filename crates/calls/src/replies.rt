@@ -4,7 +4,7 @@ use libc::STDOUT_FILENO;
 use std::num::wrapping_add_u64;
 
 // What has gone out of a reply so far.
-#[derive(Drop)]
+#[derive(Clone, Copy)]
 pub(crate) struct Sent {
     // its bytes are not written: two numbers stand for them, how many they are and their Adler-32
     digest: bool,

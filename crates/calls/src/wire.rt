@@ -125,7 +125,7 @@ pub(crate) fn put_bytes(wire: &mut [u8], at: usize, room: &[u8]) -> usize {
         return at;
     }
     let end = at + room.len();
-    bytes::copy(room, &mut wire[at..end]);
+    wire[at..end].copy_from_slice(room);
     end
 }
 

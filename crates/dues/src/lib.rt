@@ -1,5 +1,7 @@
 // What the rule of the table check asks of a cell by the values of its neighbours: `due` in paths/specs/Table.antt.
 // A part of the table check, and of every search that must judge a costs room it is lent; no entry: what `due_at` requires, its callers prove.
+#![tactic(auto)]
+
 ghost use Rattle.std.specs.Prelude.{◌≡◌, ◌+◌, ◌≤◌, length};
 ghost use Rattle.paths.specs.Table.{offer, smaller, smallest, due};
 ghost use Rattle.floor.specs.Place.{cells};
@@ -11,7 +13,7 @@ ghost use Rattle.dues.specs.Offered.{offered};
 use floor::{Around, Floor, Into, MARK};
 
 // What a cell is offered by its neighbours: nothing, or a sum that is taken in full.
-#[derive(Drop)]
+#[derive(Clone, Copy)]
 pub enum Offer {
     Nothing,
     Sum(u64),

@@ -1,6 +1,8 @@
 // The octile estimate of what is left to a goal: 02, R-4. Sums and products are in 64 bits, where none of them can wrap.
 // A part of engines and no entry: what `estimate` requires, its callers prove. floor/specs/Estimate.antt says what it is, and floor/proofs/Estimating.antt that
 // no step beats it.
+#![tactic(auto)]
+
 ghost use Rattle.std.specs.Prelude.{◌≡◌, ◌<◌, ◌≤◌};
 ghost use Rattle.paths.specs.Graph.{MARK};
 ghost use Rattle.floor.specs.Estimate.{distance, eight_ways, four_ways, estimate_to};

@@ -12,7 +12,7 @@ pub const GREATEST_SIDE: usize = 1024;
 pub const GREATEST_WEIGHT: u8 = 9;
 
 // A map's width, height and ways travel together as one value. Any numbers may stand in it: the crate `screens` judges them.
-#[derive(Drop)]
+#[derive(Clone, Copy)]
 pub struct Floor {
     pub width: usize,
     pub height: usize,
@@ -33,7 +33,7 @@ pub const LEAST_DIAGONAL: u32 = DIAGONAL * 2;
 // 01: MARK means "no cost".
 pub const MARK: u32 = 4294967295;
 
-#[derive(Drop)]
+#[derive(Clone, Copy)]
 pub struct Direction {
     pub dx: i32,
     pub dy: i32,
@@ -85,14 +85,14 @@ pub const DIRECTIONS: [Direction; 8] = [
 ];
 
 // A column and a row, both counted from 1, so that 0 is off the map to the west or the north.
-#[derive(Drop)]
+#[derive(Clone, Copy)]
 pub struct Place {
     pub column: usize,
     pub row: usize,
 }
 
 // The weights of a cell and of its four straight neighbours, 0 where there is none on the map.
-#[derive(Drop)]
+#[derive(Clone, Copy)]
 pub struct Around {
     pub weight: u32,
     pub north: u32,
@@ -102,7 +102,7 @@ pub struct Around {
 }
 
 // How long a route is: its steps, and P and Q of its true length. `route_length` in specs/Length.antt.
-#[derive(Drop)]
+#[derive(Clone, Copy)]
 pub struct RouteLength {
     pub steps: usize,
     pub p: u32,
@@ -110,7 +110,7 @@ pub struct RouteLength {
 }
 
 // Why a step is not allowed: the first of these that applies.
-#[derive(Drop)]
+#[derive(Clone, Copy)]
 pub enum Reason {
     NoSuchDirection,
     LeftOffMap,
@@ -121,28 +121,28 @@ pub enum Reason {
 }
 
 // Where a step leads and what it costs, or that there is none.
-#[derive(Drop)]
+#[derive(Clone, Copy)]
 pub enum Step {
     To(usize, u32),
     Barred(Reason),
 }
 
 // The same without the reason, for those who take all steps of a cell and ask for none.
-#[derive(Drop)]
+#[derive(Clone, Copy)]
 pub enum Onward {
     Enters(usize, u32),
     Nowhere,
 }
 
 // The cell that a step leaves and what the step costs, or that there is none.
-#[derive(Drop)]
+#[derive(Clone, Copy)]
 pub enum Into {
     From(usize, u32),
     Nothing,
 }
 
 // Whether an input passed the refusals that were tried, or the refusal's number and place. `numbers_of` in specs/Numbers.antt.
-#[derive(Drop)]
+#[derive(Clone, Copy)]
 pub enum Screen {
     Passed,
     Refused(u32, usize),

@@ -1,5 +1,7 @@
 // Every call from C in one archive. An archive has the exports of its own crate alone, so each call is handed on from here, with the promise
 // that it has in its library.
+#![tactic(auto)]
+
 ghost use Rattle.std.specs.Prelude.{◌≡◌};
 ghost use Rattle.floor.specs.Place.{floor_of};
 ghost use Rattle.maptext.specs.Reading.{reading_of, read_for};

@@ -1,5 +1,7 @@
 // What the route log asks of an entry: which answers can be logged, how many bytes a route has, and its bytes put into a room.
 // specs/Entry.antt says what an entry is. A part of the log's reader and writer, and no entry: what its functions require, their callers prove.
+#![tactic(auto)]
+
 ghost use Rattle.std.specs.Prelude.{◌≡◌, ◌+◌, ◌≤◌, length};
 ghost use Rattle.recordlayout.specs.Record.{record_size};
 ghost use Rattle.logentries.specs.Entry.{greatest_length, route_size, route_bytes, no_route, kind_fits, can_be_logged, all_within};

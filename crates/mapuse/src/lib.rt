@@ -1,4 +1,6 @@
 // Which maps a program can use: 01, "The program". specs/Use.antt says which, and what is answered about the others.
+#![tactic(auto)]
+
 ghost use Rattle.mapuse.specs.Use.{IsUsed};
 
 use maptext::{Read, judge_map, read_map};

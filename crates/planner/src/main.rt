@@ -1,5 +1,7 @@
 // The program: 01, "The program". It reads `floor.map`, then answers question records from standard input. All that it says is decided in `mapuse` and `desk`.
 // A read or a write that fails ends it, with one line on standard error.
+#![tactic(auto)]
+
 ghost use Rattle.std.specs.Prelude.{◌≡◌, false, [], ◌≤◌, ◌<◌, length, take};
 ghost use Rattle.answering.specs.Rooms.{rooms};
 ghost use Rattle.recordlayout.specs.Record.{record_size};
@@ -20,7 +22,7 @@ use streams::{Piece, Text, read_piece, read_text, write_out};
 use telling::{print_missing, print_refused, tell_broken, tell_failure};
 
 // How many bytes have gone out so far, and whether all went that were to go now.
-#[derive(Drop)]
+#[derive(Clone, Copy)]
 struct Sent {
     gone: u64,
     all: bool,
@@ -28,7 +30,7 @@ struct Sent {
 
 // What a turn leaves: how many bytes of a record that has not come whole stand at the buffer's front, how many bytes of answers have gone out so far, and
 // whether there may be more to read.
-#[derive(Drop)]
+#[derive(Clone, Copy)]
 struct Turn {
     kept: usize,
     gone: u64,

@@ -1,5 +1,7 @@
 // Bytes put into a lent room, one list after the other. specs/Put.antt says what that leaves.
 // A part of whoever writes texts and records, and no entry: what its functions require, their callers prove.
+#![tactic(auto)]
+
 ghost use Rattle.std.specs.Prelude.{◌+◌, ◌≤◌, length, replicate};
 ghost use Rattle.putting.specs.Put.{IsPut};
 

@@ -1,5 +1,6 @@
 // Cells by cost and then by cell number, as L has them: which of the listed cells come before a bound or a key, and the costs that are cut at a key.
 // A part of searches and no entry: what its functions require, their callers prove. specs/Listed.antt says what they answer.
+#![tactic(auto)]
 
 pub mod cuts; // cuts.rt: keys, and the costs that are taken back
 pub mod lists; // lists.rt: the cells that are listed in a room

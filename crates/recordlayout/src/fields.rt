@@ -42,7 +42,7 @@ pub fn record_at(bytes: &[u8], at: usize) -> [u8; RECORD_SIZE]
 {
     let end = at + RECORD_SIZE;
     let mut record = [0u8; RECORD_SIZE];
-    bytes::copy(&bytes[at..end], &mut record);
+    record.copy_from_slice(&bytes[at..end]);
     record
 }
 

@@ -71,7 +71,7 @@ fn take_entry(rest: &[u8], route: &mut [u8]) -> EntryRead
     let length = numbers.length as usize;
     let route_at = RECORD_SIZE + RECORD_SIZE;
     let end = route_at + length;
-    bytes::copy(&rest[route_at..end], route);
+    route[..length].copy_from_slice(&rest[route_at..end]);
     EntryRead {
         outcome: Outcome::Logged(length, route_at + route_size(length)),
         question,

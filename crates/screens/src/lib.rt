@@ -1,4 +1,6 @@
 // The refusals that entries share: 1 to 3 of a map, 4 of its ways, 5 to 8 of a start and a goal. 01, "Refusal numbers"; floor/specs/Refusal.antt says when each applies.
+#![tactic(auto)]
+
 ghost use Rattle.std.specs.Prelude.{◌≡◌, ◌*◌, leb, length, get_or};
 ghost use Rattle.paths.specs.Below.{every};
 ghost use Rattle.floor.specs.Place.{greatest_weight, is_side, has_sides};

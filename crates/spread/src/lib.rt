@@ -1,5 +1,6 @@
 // The spread: a search that takes its open cells in any order and may take one again. An estimate says which are worth taking, and when it can end.
 // A part of searches and no entry: what its functions require, their callers prove. specs/Listing.antt says what that is, and what they keep.
+#![tactic(auto)]
 
 pub mod lists; // lists.rt: open cells are listed, and their steps are taken
 pub mod passes; // passes.rt: passes over the list, until no listed cell can matter to the goal
@@ -7,7 +8,7 @@ pub mod passes; // passes.rt: passes over the list, until no listed cell can mat
 use floor::{Floor, Place};
 
 // What the search aims at: the goal, and its place, worked out once for the estimate.
-#[derive(Drop)]
+#[derive(Clone, Copy)]
 pub struct Aim {
     pub floor: Floor,
     pub goal: usize,

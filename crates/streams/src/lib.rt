@@ -1,6 +1,8 @@
 // A part of the programs: reading and writing that lose nothing silently. A call that the system puts off is made again, a write that took a part goes on,
 // and a call that fails is answered as one that failed.
 // No contract speaks of what a system call read or wrote; what is proved is that each call keeps to the room it is lent, and what is counted.
+#![tactic(auto)]
+
 ghost use Rattle.std.specs.Prelude.{◌≡◌, ◌≤◌, ◌<◌, length, take};
 ghost use Rattle.streams.specs.Streams.{PieceIn, TextIn, text_at_end};
 
@@ -9,7 +11,7 @@ mod waiting; // waiting.rt: a short sleep
 use waiting::wait_if_put_off;
 
 // What one read brought: so many bytes, the end of the input, or a failure, whose reason stands in errno.
-#[derive(Drop)]
+#[derive(Clone, Copy)]
 pub enum Piece {
     Bytes(usize),
     End,
@@ -17,7 +19,7 @@ pub enum Piece {
 }
 
 // The length of the text that was read from a file, or that it could not be read.
-#[derive(Drop)]
+#[derive(Clone, Copy)]
 pub enum Text {
     Length(usize),
     Unread,

@@ -126,6 +126,6 @@ pub fn write_route(
 {
     let length = write_back(f, map, costs, start, goal, route);
     let steps = length.steps;
-    bytes::reverse(route, 0, steps);
+    route[..steps].reverse();
     length
 }
