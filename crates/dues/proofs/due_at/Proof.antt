@@ -6,36 +6,36 @@ use Rattle.paths.specs.Table.{due}
 use Rattle.dues.proofs.due_at.Statement.{statement}
 use Rattle.dues.proofs.due_at.Tie as tie
 
-returns : tie.Need-returns
+returns : tie.Need-returns-then-cell-start
 unfolding due
-returns c = let a = c.before.before.before.args in rw (eq-eqb a.cell a.start (omega (arith, c.if1.true)))
+returns c = let a = c.args in rw (eq-eqb a.cell a.start (omega (arith, c.if-cell-start.true)))
 
-smallest-offer-requires : tie.Need-smallest-offer-requires
+smallest-offer-requires : tie.Need-smallest_offer-least-requires
 smallest-offer-requires c κs = search rules
 
-enum-known-least : tie.Need-enum-known-least
+enum-known-least : tie.Need-enum_known-least
 enum-known-least c = search rules
 
-enum_told : tie.Need-enum-told
+enum_told : tie.Need-enum_told-1
 enum_told c = search rules
 
-cast-result : tie.Need-overflow-cast-result
+cast-result : tie.Need-overflow_cast-result
 cast-result c = search rules
 
-returns-2 : tie.Need-returns-2
+returns-2 : tie.Need-returns-in_default
 unfolding due
 returns-2 c =
-    let t = c.before.before in
-    rw (ne_eqb _ _ t.before.if1.false, ← t.smallest-offer.ensures, c.enum_told.given.1)
+    let t = c in
+    rw (ne_eqb _ _ t.if-cell-start.false, ← t.smallest_offer-least.ensures, c.in_default.is)
 
-returns-3 : tie.Need-returns-3
+returns-3 : tie.Need-returns
 unfolding due
 returns-3 c =
-    let t = c.before.before.before in
-    rw (ne_eqb _ _ t.before.if1.false, ← t.smallest-offer.ensures, c.before.least.given.1)
+    let t = c in
+    rw (ne_eqb _ _ t.if-cell-start.false, ← t.smallest_offer-least.ensures, c.in-Sum.is)
 
-pub due-at-spec : {M : Type 1} → statement M
-due-at-spec =
+pub due_at_spec : {M : Type 1} → statement M
+due_at_spec =
     tie.close
     (tie.spec
     returns

@@ -12,59 +12,59 @@ use Rattle.floor.proofs.Entering.{into_inside, offer_into}
 use Rattle.dues.proofs.offer_from.Statement.{statement}
 use Rattle.dues.proofs.offer_from.Tie as tie
 
-step-into-requires : tie.Need-step-into-requires
+step-into-requires : tie.Need-step_into-step-requires
 step-into-requires c κs = search rules
 
-enum-known-step : tie.Need-enum-known-step
+enum-known-step : tie.Need-enum_known-step
 enum-known-step c = search rules
 
-enum_told : tie.Need-enum-told
+enum_told : tie.Need-enum_told-1
 enum_told c = search rules
 
-returns : tie.Need-returns
+returns : tie.Need-returns-in_default
 returns c =
-    let t = c.before.before in
-    let s = t.before.before.before.args in
-    rw (offer_into s.f s.map.now s.costs.now s.cell s.direction, ← t.step-into.ensures, c.enum_told.given.1)
+    let t = c in
+    let s = t.args in
+    rw (offer_into s.f s.map.now s.costs.now s.cell s.direction, ← t.step_into-step.ensures, c.in_default.is)
 
-abbrev start : tie.After-known-told → tie.Start
+abbrev start : tie.In-From → tie.Start
 start c = c.before.before.before.before.before.before
 
 -- where the step comes from
-leaves : (c : tie.After-known-told) →
+leaves : (c : tie.In-From) →
     let s = (start c).args in
-    into_of s.f s.map.now s.cell s.direction ≡ From c.before.step.given.0.0 c.before.step.given.0.1.0
-leaves c = sym c.before.before.before.step-into.ensures ∙ c.before.step.given.1
+    into_of s.f s.map.now s.cell s.direction ≡ From c.in-From.from c.in-From.cost
+leaves c = sym c.step_into-step.ensures ∙ c.in-From.is
 
-inside : (c : tie.After-known-told) → c.before.step.given.0.0 < length (start c).args.costs.now
+inside : (c : tie.In-From) → c.in-From.from < length (start c).args.costs.now
 inside c =
     let s = start c in
-    omega (arith, (into_inside s.args.f s.args.map.now s.args.cell s.args.direction _ _ (leaves c)).1, s.pre.1)
+    omega (arith, (into_inside s.args.f s.args.map.now s.args.cell s.args.direction _ _ (leaves c)).1, s.requires.1)
 
-mul-value : tie.Need-overflow-mul-value
+mul-value : tie.Need-offset_bounds-costs-from
 mul-value c = omega (arith, inside c, (start c).well-formed)
 
-shared-slice-read-value : tie.Need-shared-slice-read-value
+shared-slice-read-value : tie.Need-bounds-costs-from
 shared-slice-read-value c = inside c.before
 
-returns-2 : tie.Need-returns-2
+returns-2 : tie.Need-returns-then-value
 returns-2 c =
     let t = c.before.before in
     let s = (start t).args in
-    rw (offer_into s.f s.map.now s.costs.now s.cell s.direction, leaves t, eq-eqb (get_or s.costs.now t.before.step.given.0.0 0) MARK (omega (arith, c.if1.true, c.before.shared-slice-known3.given t.before.step.given.0.0)))
+    rw (offer_into s.f s.map.now s.costs.now s.cell s.direction, leaves t, eq-eqb (get_or s.costs.now t.in-From.from 0) MARK (omega (arith, c.if-value.true, c.shared_slice_known-3-1.given t.in-From.from)))
 
-sum-in-full-requires : tie.Need-sum-in-full-requires
+sum-in-full-requires : tie.Need-sum_in_full-requires
 sum-in-full-requires c κs = search rules
 
-returns-3 : tie.Need-returns-3
+returns-3 : tie.Need-returns
 returns-3 c =
     let e = c.before in
     let t = e.before.before in
     let s = (start t).args in
-    rw (c.sum-in-full.ensures, offer_into s.f s.map.now s.costs.now s.cell s.direction, leaves t, ne_eqb (get_or s.costs.now t.before.step.given.0.0 0) MARK (omega (arith, e.if1.false)))
+    rw (c.sum_in_full.ensures, offer_into s.f s.map.now s.costs.now s.cell s.direction, leaves t, ne_eqb (get_or s.costs.now t.in-From.from 0) MARK (omega (arith, e.if-value.false)))
 
-pub offer-from-spec : {M : Type 1} → statement M
-offer-from-spec =
+pub offer_from_spec : {M : Type 1} → statement M
+offer_from_spec =
     tie.close
     (tie.spec
     step-into-requires

@@ -8,49 +8,49 @@ use Rattle.logentries.proofs.Bytes.{within_here, below_here, above_here, none_le
 use Rattle.logentries.proofs.all_within.Statement.{statement}
 use Rattle.logentries.proofs.all_within.Tie as tie
 
-abbrev invariant_loop : tie.invariant_loop
+abbrev invariant_loop : tie.invariant-loop-i
 invariant_loop least greatest bytes i₀ i = (i ≤ length bytes) × (all_within least greatest bytes ≡ all_within least greatest (drop i bytes))
 
-abbrev decreases_loop : tie.decreases_loop
+abbrev decreases_loop : tie.decreases-loop-i
 decreases_loop least greatest bytes i₀ i = length bytes - i
 
-loop-holds : tie.Need-loop-init invariant_loop decreases_loop
+loop-holds : tie.Need-loop-i-init invariant_loop decreases_loop
 loop-holds c = (omega arith, refl)
 
-shared-slice-read-if1 : tie.Need-shared-slice-read-if1 invariant_loop decreases_loop
+shared-slice-read-if1 : tie.Need-bounds-bytes-i invariant_loop decreases_loop
 shared-slice-read-if1 c = omega arith
 
-returns : tie.Need-returns invariant_loop decreases_loop
+returns : tie.Need-returns-then-bytes-i invariant_loop decreases_loop
 returns c =
-    let l = c.before.before.before in
-    sym (l.loop.invariant.1 ∙ below_here _ _ _ l.loop.i (omega arith) c.if1.true)
+    let l = c in
+    sym (l.loop-i.invariant.1 ∙ below_here _ _ _ l.loop-i.i (omega arith) c.if-bytes-i.true)
 
-shared-slice-read-if2 : tie.Need-shared-slice-read-if2 invariant_loop decreases_loop
+shared-slice-read-if2 : tie.Need-bounds-bytes-i-in-loop-i invariant_loop decreases_loop
 shared-slice-read-if2 c = omega arith
 
-returns-2 : tie.Need-returns-2 invariant_loop decreases_loop
+returns-2 : tie.Need-returns-then-greatest-bytes invariant_loop decreases_loop
 returns-2 c =
-    let l = c.before.before.before.before.before in
-    sym (l.loop.invariant.1 ∙ above_here _ _ _ l.loop.i (omega arith) (omega arith) c.if2.true)
+    let l = c in
+    sym (l.loop-i.invariant.1 ∙ above_here _ _ _ l.loop-i.i (omega arith) (omega arith) c.if-greatest-bytes.true)
 
-add-i : tie.Need-overflow-add-i invariant_loop decreases_loop
+add-i : tie.Need-overflow_add-i invariant_loop decreases_loop
 add-i c = omega arith
 
-loop-less : tie.Need-loop-smaller invariant_loop decreases_loop
+loop-less : tie.Need-loop-i-smaller invariant_loop decreases_loop
 loop-less c = omega arith
 
-loop-again : tie.Need-loop-preserved invariant_loop decreases_loop
+loop-again : tie.Need-loop-i-preserved invariant_loop decreases_loop
 loop-again c =
-    let l = c.before.before.before.before.before in
-    (omega arith, l.loop.invariant.1 ∙ within_here _ _ _ l.loop.i (omega arith) (omega arith) (omega arith))
+    let l = c in
+    (omega arith, l.loop-i.invariant.1 ∙ within_here _ _ _ l.loop-i.i (omega arith) (omega arith) (omega arith))
 
-returns-3 : tie.Need-returns-3 invariant_loop decreases_loop
+returns-3 : tie.Need-returns invariant_loop decreases_loop
 returns-3 c =
-    let l = c.before in
-    sym (l.loop.invariant.1 ∙ none_left _ _ _ l.loop.i (omega arith))
+    let l = c in
+    sym (l.loop-i.invariant.1 ∙ none_left _ _ _ l.loop-i.i (omega arith))
 
-pub all-within-spec : {M : Type 1} → statement M
-all-within-spec =
+pub all_within_spec : {M : Type 1} → statement M
+all_within_spec =
     tie.close
     (tie.spec
     invariant_loop

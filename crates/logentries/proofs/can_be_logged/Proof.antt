@@ -9,16 +9,16 @@ use Rattle.logentries.proofs.Answers.{no_refusal, greater_refusal, zeros_after, 
 use Rattle.logentries.proofs.can_be_logged.Statement.{statement}
 use Rattle.logentries.proofs.can_be_logged.Tie as tie
 
-numbers-in-requires : tie.Need-numbers-in-requires
+numbers-in-requires : tie.Need-numbers_in-numbers-requires
 numbers-in-requires c κs = search rules
 
-returns : tie.Need-returns
-returns c = sym (no_refusal _ c.before.before.before.before.numbers-in.ensures c.before.before.if1.true c.if2.true)
+returns : tie.Need-returns-then-numbers-eq0-2
+returns c = sym (no_refusal _ c.numbers_in-numbers.ensures c.if-numbers-eq0.true c.if-numbers-eq0-2.true)
 
-returns-2 : tie.Need-returns-2
-returns-2 c = sym (greater_refusal _ c.before.before.before.before.before.before.numbers-in.ensures c.before.before.before.before.if1.true (omega (arith, c.if3.true)))
+returns-2 : tie.Need-returns-then-numbers-gt-GREATEST_REFUSAL
+returns-2 c = sym (greater_refusal _ c.numbers_in-numbers.ensures c.if-numbers-eq0.true (omega (arith, c.if-numbers-gt-GREATEST_REFUSAL.true)))
 
-sub-all-zero : tie.Need-overflow-sub-all-zero
+sub-all-zero : tie.Need-slice_bounds-all_zero-count
 sub-all-zero c = search rules
 
 part-all-zero-start : tie.Need-slice-bounds-all-zero-start
@@ -27,16 +27,16 @@ part-all-zero-start c = search rules
 part-all-zero-end : tie.Need-slice-bounds-all-zero-end
 part-all-zero-end c = search rules
 
-all-zero-requires : tie.Need-all-zero-requires
+all-zero-requires : tie.Need-all_zero-requires
 all-zero-requires c κs = search rules
 
-returns-3 : tie.Need-returns-3
+returns-3 : tie.Need-returns-then-numbers-eq0
 returns-3 c =
-    let n = c.before.before.before.before.before.before.before.before in
-    let zeros = c.all-zero.ensures ∙ ap all_zero (part_to_end n.before.before.args.answer.now 2) in
-    zeros ∙ sym (zeros_after _ n.numbers-in.ensures c.before.before.before.before.before.before.if1.true c.before.before.before.before.if2.false (omega (arith, c.before.before.if3.false)))
+    let n = c in
+    let zeros = c.all_zero.ensures ∙ ap all_zero (part_to_end n.args.answer.now 2) in
+    zeros ∙ sym (zeros_after _ n.numbers_in-numbers.ensures c.if-numbers-eq0.true c.if-numbers-eq0-2.false (omega (arith, c.if-numbers-gt-GREATEST_REFUSAL.false)))
 
-sub-all-zero-2 : tie.Need-overflow-sub-all-zero-2
+sub-all-zero-2 : tie.Need-slice_bounds-all_zero-count-2
 sub-all-zero-2 c = search rules
 
 part-all-zero-start-2 : tie.Need-slice-bounds-all-zero-start-2
@@ -45,10 +45,10 @@ part-all-zero-start-2 c = search rules
 part-all-zero-end-2 : tie.Need-slice-bounds-all-zero-end-2
 part-all-zero-end-2 c = search rules
 
-all-zero-requires-2 : tie.Need-all-zero-requires-2
+all-zero-requires-2 : tie.Need-all_zero-requires-2
 all-zero-requires-2 c κs = search rules
 
-sub-all-zero-3 : tie.Need-overflow-sub-all-zero-3
+sub-all-zero-3 : tie.Need-slice_bounds-all_zero-count-then-all_zero
 sub-all-zero-3 c = search rules
 
 part-all-zero-start-3 : tie.Need-slice-bounds-all-zero-start-3
@@ -57,44 +57,44 @@ part-all-zero-start-3 c = search rules
 part-all-zero-end-3 : tie.Need-slice-bounds-all-zero-end-3
 part-all-zero-end-3 c = search rules
 
-all-zero-requires-3 : tie.Need-all-zero-requires-3
+all-zero-requires-3 : tie.Need-all_zero-requires-then-all_zero
 all-zero-requires-3 c κs = search rules
 
-kind-fits-requires : tie.Need-kind-fits-requires
+kind-fits-requires : tie.Need-kind_fits-requires
 kind-fits-requires c κs = search rules
 
 -- the last eight bytes were looked at
-ends : (c : tie.After-all-zero3) →
-    let n = c.before.before.before.before.before.before.before in
-    c.all-zero3.result ≡ all_zero (drop 24 n.before.before.args.answer.now)
+ends : (c : tie.After-all_zero-then-all_zero) →
+    let n = c in
+    c.all_zero-then-all_zero.result ≡ all_zero (drop 24 n.args.answer.now)
 ends c =
-    let n = c.before.before.before.before.before.before.before in
-    c.all-zero3.ensures ∙ ap all_zero (part_to_end n.before.before.args.answer.now 24)
+    let n = c in
+    c.all_zero-then-all_zero.ensures ∙ ap all_zero (part_to_end n.args.answer.now 24)
 
-returns-4 : tie.Need-returns-4
+returns-4 : tie.Need-returns-then-all_zero-2
 returns-4 c =
     let e = c.before.before in
-    let z = e.before.before.before in
-    let n = z.before.before.before.before in
+    let z = e in
+    let n = z in
     c.kind_fits.ensures
     ∙ sym
-    (by_kind _ n.numbers-in.ensures z.before.before.if1.false (sym z.all-zero2.ensures ∙ e.before.before.if4.true)
-    (sym (ends e) ∙ c.before.if5.true))
+    (by_kind _ n.numbers_in-numbers.ensures z.if-numbers-eq0.false (sym z.all_zero-2.ensures ∙ e.if-all_zero.true)
+    (sym (ends e) ∙ c.if-all_zero-2.true))
 
-returns-5 : tie.Need-returns-5
+returns-5 : tie.Need-returns-else-all_zero-2
 returns-5 c =
     let e = c.before in
-    let z = e.before.before.before in
-    let n = z.before.before.before.before in
+    let z = e in
+    let n = z in
     sym
-    (no_end_zeros _ n.numbers-in.ensures z.before.before.if1.false (sym z.all-zero2.ensures ∙ e.before.before.if4.true)
-    (sym (ends e) ∙ c.if5.false))
+    (no_end_zeros _ n.numbers_in-numbers.ensures z.if-numbers-eq0.false (sym z.all_zero-2.ensures ∙ e.if-all_zero.true)
+    (sym (ends e) ∙ c.if-all_zero-2.false))
 
-returns-6 : tie.Need-returns-6
-returns-6 c = sym (no_zeros _ c.before.before.before.before.before.numbers-in.ensures c.before.before.before.if1.false (sym c.before.all-zero2.ensures ∙ c.if4.false))
+returns-6 : tie.Need-returns-else-all_zero
+returns-6 c = sym (no_zeros _ c.numbers_in-numbers.ensures c.if-numbers-eq0.false (sym c.all_zero-2.ensures ∙ c.if-all_zero.false))
 
-pub can-be-logged-spec : {M : Type 1} → statement M
-can-be-logged-spec =
+pub can_be_logged_spec : {M : Type 1} → statement M
+can_be_logged_spec =
     tie.close
     (tie.spec
     numbers-in-requires

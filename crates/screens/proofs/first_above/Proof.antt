@@ -11,22 +11,22 @@ use Rattle.floor.specs.Refusal.{first_above}
 use Rattle.screens.proofs.first_above.Statement.{statement}
 use Rattle.screens.proofs.first_above.Tie as tie
 
-has-weights-requires : tie.Need-has-weights-requires
+has-weights-requires : tie.Need-has_weights-requires
 has-weights-requires c κs = search rules
 
-returns : tie.Need-returns
+returns : tie.Need-returns-then-has_weights
 unfolding first_above
 returns c =
-    let d = c.before in
-    let m = d.before.before.args.map.now in
-    let all = every_at _ (length m) (true_T _ (sym d.has-weights.ensures ∙ c.if1.true)) in
+    let d = c in
+    let m = d.args.map.now in
+    let all = every_at _ (length m) (true_T _ (sym d.has_weights.ensures ∙ c.if-has_weights.true)) in
     sym (lowest_none _ (length m) (λ v h t. absurd (omega (arith, ltb→lt greatest_weight (get_or m v 0) t, leb→le (get_or m v 0) greatest_weight (all v h)))))
 
-seek-above-requires : tie.Need-seek-above-requires
+seek-above-requires : tie.Need-seek_above-requires
 seek-above-requires c κs = search rules
 
-returns-2 : tie.Need-returns-2
+returns-2 : tie.Need-returns
 returns-2 c = search rules
 
-pub first-above-spec : {M : Type 1} → statement M
-first-above-spec = tie.close (tie.spec has-weights-requires returns seek-above-requires returns-2)
+pub first_above_spec : {M : Type 1} → statement M
+first_above_spec = tie.close (tie.spec has-weights-requires returns seek-above-requires returns-2)

@@ -30,36 +30,36 @@ one_more greatest byte next all e came = go (dec_le byte greatest_weight) came
     go (no h) (inl g) = rw (g.1, lt-leb byte greatest_weight (omega arith)) refl
     go (no h) (inr g) = rw (g.1, lt-leb byte greatest_weight (omega arith), lt-leb greatest greatest_weight (omega (arith, g.0))) refl
 
-abbrev invariant_loop : tie.invariant_loop
+abbrev invariant_loop : tie.invariant-loop-at
 invariant_loop map greatest₀ at₀ greatest at = (at ≤ length map) × (leb greatest greatest_weight ≡ every (is_weight map) at)
 
-abbrev decreases_loop : tie.decreases_loop
+abbrev decreases_loop : tie.decreases-loop-at
 decreases_loop map greatest₀ at₀ greatest at = length map - at
 
-loop-holds : tie.Need-loop-init invariant_loop decreases_loop
+loop-holds : tie.Need-loop-at-init invariant_loop decreases_loop
 loop-holds c = (omega arith, refl)
 
-shared-slice-read-byte : tie.Need-shared-slice-read-byte invariant_loop decreases_loop
+shared-slice-read-byte : tie.Need-bounds-map-at invariant_loop decreases_loop
 shared-slice-read-byte c = omega arith
 
-add_at : tie.Need-overflow-add-at invariant_loop decreases_loop
+add_at : tie.Need-overflow_add-at invariant_loop decreases_loop
 add_at c = omega arith
 
-loop-less : tie.Need-loop-smaller invariant_loop decreases_loop
+loop-less : tie.Need-loop-at-smaller invariant_loop decreases_loop
 loop-less c = omega arith
 
-loop-again : tie.Need-loop-preserved invariant_loop decreases_loop
+loop-again : tie.Need-loop-at-preserved invariant_loop decreases_loop
 loop-again c =
-    let l = c.before.before.before.loop in
-    (omega arith, rw add-one (one_more l.greatest _ c.if1.greatest _ l.invariant.1 (⊎_elim (λ w. inl (w.0.taken, w.1)) (λ w. inr (w.0.left, w.1)) c.if1.branch)))
+    let l = c.loop-at in
+    (omega arith, rw add-one (one_more l.greatest _ c.if-byte-greatest.greatest _ l.invariant.1 (⊎_elim (λ w. inl (w.0.taken, w.1)) (λ w. inr (w.0.left, w.1)) c.if-byte-greatest.branch)))
 
 returns : tie.Need-returns invariant_loop decreases_loop
 returns c =
-    let e : c.before.loop.at ≡ length c.before.before.args.map.now = omega arith in
-    rw e at c.before.loop.invariant.1
+    let e : c.loop-at.at ≡ length c.args.map.now = omega arith in
+    rw e at c.loop-at.invariant.1
 
-pub has-weights-spec : {M : Type 1} → statement M
-has-weights-spec =
+pub has_weights_spec : {M : Type 1} → statement M
+has_weights_spec =
     tie.close
     (tie.spec
     invariant_loop

@@ -5,13 +5,13 @@ use Rattle.floor.specs.Place.{is_side}
 use Rattle.screens.proofs.is_side.Statement.{statement}
 use Rattle.screens.proofs.is_side.Tie as tie
 
-returns : tie.Need-returns
+returns : tie.Need-returns-then-n-eq0
 unfolding is_side
-returns c = rw c.if1.true
+returns c = rw c.if-n-eq0.true
 
-returns-2 : tie.Need-returns-2
+returns-2 : tie.Need-returns
 unfolding is_side
-returns-2 c = rw (lt-ltb 0 c.before.args.n (omega arith))
+returns-2 c = rw (lt-ltb 0 c.args.n (omega arith))
 
-pub is-side-spec : {M : Type 1} → statement M
-is-side-spec = tie.close (tie.spec returns returns-2)
+pub is_side_spec : {M : Type 1} → statement M
+is_side_spec = tie.close (tie.spec returns returns-2)

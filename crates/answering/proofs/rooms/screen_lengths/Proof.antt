@@ -14,13 +14,13 @@ use Rattle.answering.specs.Rooms.{room_lines, length_lines}
 use Rattle.answering.proofs.rooms.screen_lengths.Statement.{statement}
 use Rattle.answering.proofs.rooms.screen_lengths.Tie as tie
 
-screen-question-requires : tie.Need-screen-question-requires
+screen-question-requires : tie.Need-screen_question-question-requires
 screen-question-requires c κs = search rules
 
-enum-known-question : tie.Need-enum-known-question
+enum-known-question : tie.Need-enum_known-question
 enum-known-question c = search rules
 
-enum_told : tie.Need-enum-told
+enum_told : tie.Need-enum_told-1
 enum_told c = search rules
 
 -- the lines after those of the question
@@ -28,37 +28,37 @@ abbrev later : tie.Start → List Line
 later s = room_lines s.args.f s.args.costs s.args.work s.args.route
 
 -- only those are left
-left : (c : tie.After-enum-told) →
+left : (c : tie.In-Passed) →
     let s = c.before.before.before.before in
     screen (length_lines s.args.f s.args.map.now s.args.start s.args.goal s.args.costs s.args.work s.args.route)
     ≡ screen (later s)
 left c =
     let s = c.before.before.before.before in
-    screen_after (question_lines s.args.f s.args.map.now s.args.start s.args.goal) (later s) _ _ c.before.before.screen-question.ensures c.enum_told.given.1
+    screen_after (question_lines s.args.f s.args.map.now s.args.start s.args.goal) (later s) _ _ c.screen_question-question.ensures c.in-Passed.is
 
-covers : (c : tie.After-enum-told) → let s = c.before.before.before.before in length s.args.map.now ≡ cells s.args.f
+covers : (c : tie.In-Passed) → let s = c in length s.args.map.now ≡ cells s.args.f
 covers c =
-    let s = c.before.before.before.before in
-    question_covers s.args.f s.args.map.now s.args.start s.args.goal (sym c.before.before.screen-question.ensures ∙ c.enum_told.given.1)
+    let s = c in
+    question_covers s.args.f s.args.map.now s.args.start s.args.goal (sym c.screen_question-question.ensures ∙ c.in-Passed.is)
 
-returns : tie.Need-returns
+returns : tie.Need-returns-then-costs-cells
 returns c =
-    let s = c.before.before.before.before.before in
+    let s = c in
     rw (left c.before, lt-ltb s.args.costs (cells s.args.f) (omega (arith, covers c.before)))
 
-mul-if2 : tie.Need-overflow-mul-if2
+mul-if2 : tie.Need-overflow_mul-cells
 mul-if2 c = search rules
 
-returns-2 : tie.Need-returns-2
+returns-2 : tie.Need-returns-then-work-cells
 returns-2 c =
     let t = c.before.before in
-    let s = t.before.before.before.before in
+    let s = t in
     rw (left t, le-ltb s.args.costs (cells s.args.f) (omega (arith, covers t)), lt-ltb s.args.work (2 * cells s.args.f) (omega (arith, covers t)))
 
-returns-3 : tie.Need-returns-3
+returns-3 : tie.Need-returns-then-route-cells
 returns-3 c =
     let t = c.before.before.before in
-    let s = t.before.before.before.before in
+    let s = t in
     rw (
       left t,
       le-ltb s.args.costs (cells s.args.f) (omega (arith, covers t)),
@@ -66,16 +66,16 @@ returns-3 c =
       lt-ltb s.args.route (cells s.args.f) (omega (arith, covers t)),
     )
 
-returns-4 : tie.Need-returns-4
+returns-4 : tie.Need-returns-in-Refused
 returns-4 c =
     let t = c.before in
     let s = t.before.before.before.before in
-    rw (screen_after (question_lines s.args.f s.args.map.now s.args.start s.args.goal) (later s) _ _ t.before.before.screen-question.ensures t.question.given.1)
+    rw (screen_after (question_lines s.args.f s.args.map.now s.args.start s.args.goal) (later s) _ _ t.screen_question-question.ensures t.in-Refused.is)
 
-returns-5 : tie.Need-returns-5
+returns-5 : tie.Need-returns-else-route-cells
 returns-5 c =
     let t = c.before.before.before in
-    let s = t.before.before.before.before in
+    let s = t in
     rw (
       left t,
       le-ltb s.args.costs (cells s.args.f) (omega (arith, covers t)),
@@ -83,8 +83,8 @@ returns-5 c =
       le-ltb s.args.route (cells s.args.f) (omega (arith, covers t)),
     )
 
-pub screen-lengths-spec : {M : Type 1} → statement M
-screen-lengths-spec =
+pub screen_lengths_spec : {M : Type 1} → statement M
+screen_lengths_spec =
     tie.close
     (tie.spec
     screen-question-requires

@@ -6,28 +6,28 @@ use Rattle.astar.proofs.Keeps.{no_cost, no_top, within, beyond}
 use Rattle.astar.proofs.ends.kept_cost.Statement.{statement}
 use Rattle.astar.proofs.ends.kept_cost.Tie as tie
 
-returns : tie.Need-returns
-returns c = sym (no_cost _ _ _ c.if1.true)
+returns : tie.Need-returns-then-cost-eq-MARK
+returns c = sym (no_cost _ _ _ c.if-cost-eq-MARK.true)
 
-returns-2 : tie.Need-returns-2
-returns-2 c = sym (no_top _ _ _ c.before.if1.false c.if2.true)
+returns-2 : tie.Need-returns-then-top-eq-MARK
+returns-2 c = sym (no_top _ _ _ c.if-cost-eq-MARK.false c.if-top-eq-MARK.true)
 
-estimate-requires : tie.Need-estimate-requires
+estimate-requires : tie.Need-estimate-estimate-requires
 estimate-requires c κs = search rules
 
-add-if3 : tie.Need-overflow-add-if3
+add-if3 : tie.Need-overflow_add-cost
 add-if3 c = search rules
 
-returns-3 : tie.Need-returns-3
+returns-3 : tie.Need-returns-then-cost-estimate
 returns-3 c =
-    let e = c.before in
-    sym (within _ _ _ e.before.before.if1.false e.before.if2.false (omega (arith, c.if3.true, e.estimate.ensures.0)))
+    let e = c in
+    sym (within _ _ _ e.if-cost-eq-MARK.false e.if-top-eq-MARK.false (omega (arith, c.if-cost-estimate.true, e.estimate-estimate.ensures.0)))
 
-returns-4 : tie.Need-returns-4
+returns-4 : tie.Need-returns
 returns-4 c =
-    let e = c.before in
-    sym (beyond _ _ _ e.before.before.if1.false e.before.if2.false (omega (arith, c.if3.false, e.estimate.ensures.0)))
+    let e = c in
+    sym (beyond _ _ _ e.if-cost-eq-MARK.false e.if-top-eq-MARK.false (omega (arith, c.if-cost-estimate.false, e.estimate-estimate.ensures.0)))
 
-pub kept-cost-spec : {M : Type 1} → statement M
-kept-cost-spec =
+pub kept_cost_spec : {M : Type 1} → statement M
+kept_cost_spec =
     tie.close (tie.spec returns returns-2 estimate-requires add-if3 returns-3 returns-4)

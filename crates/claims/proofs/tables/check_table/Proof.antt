@@ -16,56 +16,56 @@ use Rattle.claims.proofs.Passing.{table_question, table_passed, table_covers}
 use Rattle.claims.proofs.tables.check_table.Statement.{statement}
 use Rattle.claims.proofs.tables.check_table.Tie as tie
 
-screen-table-requires : tie.Need-screen-table-requires
+screen-table-requires : tie.Need-screen_table-screen-requires
 screen-table-requires c κs = search rules
 
-enum-known-screen : tie.Need-enum-known-screen
+enum-known-screen : tie.Need-enum_known-screen
 enum-known-screen c = search rules
 
-enum_told : tie.Need-enum-told
+enum_told : tie.Need-enum_told-1
 enum_told c = search rules
 
-module _ (c : tie.After-enum-told) where
+module _ (c : tie.In-Passed) where
   abbrev f : Floor
-  f = c.before.before.before.before.before.args.f
+  f = c.args.f
 
   abbrev map : List ℕ
-  map = c.before.before.before.before.before.args.map.now
+  map = c.args.map.now
 
   abbrev start : ℕ
-  start = c.before.before.before.before.before.args.start
+  start = c.args.start
 
   abbrev costs : List ℕ
-  costs = c.before.before.before.before.before.args.costs.now
+  costs = c.args.costs.now
 
   passed : screen (table_lines f map start costs) ≡ Passed
-  passed = sym c.before.before.screen-table.ensures ∙ c.enum_told.given.1
+  passed = sym c.screen_table-screen.ensures ∙ c.in-Passed.is
 
   covers : length map ≡ cells f
   covers = question_covers f map start start (table_question f map start costs passed)
 
-first-breaking-requires : tie.Need-first-breaking-requires
+first-breaking-requires : tie.Need-first_breaking-cell-requires
 first-breaking-requires c κs =
     (table_passed (f c) (map c) (start c) (costs c) (passed c), table_covers (f c) (map c) (start c) (costs c) (passed c))
 
-returns : tie.Need-returns
+returns : tie.Need-returns-then-cell-map
 unfolding table_verdict
 returns c =
     let t = c.before.before in
-    rw (passed t, ← c.before.first-breaking.ensures, lt-ltb c.before.first-breaking.result (cells (f t)) (omega (arith, covers t)))
+    rw (passed t, ← c.first_breaking-cell.ensures, lt-ltb c.first_breaking-cell.result (cells (f t)) (omega (arith, covers t)))
 
-returns-2 : tie.Need-returns-2
+returns-2 : tie.Need-returns-in-Refused
 unfolding table_verdict
-returns-2 c = rw (sym c.before.before.before.screen-table.ensures ∙ c.before.screen.given.1)
+returns-2 c = rw (sym c.screen_table-screen.ensures ∙ c.in-Refused.is)
 
-returns-3 : tie.Need-returns-3
+returns-3 : tie.Need-returns-else-cell-map
 unfolding table_verdict
 returns-3 c =
     let t = c.before.before in
-    rw (passed t, ← c.before.first-breaking.ensures, le-ltb c.before.first-breaking.result (cells (f t)) (omega (arith, covers t)))
+    rw (passed t, ← c.first_breaking-cell.ensures, le-ltb c.first_breaking-cell.result (cells (f t)) (omega (arith, covers t)))
 
-pub check-table-spec : {M : Type 1} → statement M
-check-table-spec =
+pub check_table_spec : {M : Type 1} → statement M
+check_table_spec =
     tie.close
     (tie.spec
     screen-table-requires

@@ -9,16 +9,16 @@ use Rattle.claims.proofs.Packing.{table_value_small}
 use Rattle.claims.proofs.tables.fradnumber_check_table.Statement.{statement}
 use Rattle.claims.proofs.tables.fradnumber_check_table.Tie as tie
 
-check-table-requires : tie.Need-check-table-requires
+check-table-requires : tie.Need-check_table-requires
 check-table-requires c κs = search rules
 
 pack-requires : tie.Need-pack-requires
 pack-requires c κs =
-    let a = c.before.before.before.args in
-    rw c.check-table.ensures (table_value_small (floor_of a.width a.height a.ways) a.map.now a.start a.costs.now)
+    let a = c.args in
+    rw c.check_table.ensures (table_value_small (floor_of a.width a.height a.ways) a.map.now a.start a.costs.now)
 
 returns : tie.Need-returns
-returns c = c.pack.ensures ∙ ap (λ (v : Numbers). packed (as_fault v)) c.before.check-table.ensures
+returns c = c.pack.ensures ∙ ap (λ (v : Numbers). packed (as_fault v)) c.check_table.ensures
 
-pub fradnumber-check-table-spec : {M : Type 1} → statement M
-fradnumber-check-table-spec = tie.close (tie.spec check-table-requires pack-requires returns)
+pub fradnumber_check_table_spec : {M : Type 1} → statement M
+fradnumber_check_table_spec = tie.close (tie.spec check-table-requires pack-requires returns)

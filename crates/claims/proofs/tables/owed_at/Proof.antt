@@ -7,24 +7,24 @@ use Rattle.claims.specs.Table.{owed}
 use Rattle.claims.proofs.tables.owed_at.Statement.{statement}
 use Rattle.claims.proofs.tables.owed_at.Tie as tie
 
-shared-slice-read-if1 : tie.Need-shared-slice-read-if1
+shared-slice-read-if1 : tie.Need-bounds-map-cell
 shared-slice-read-if1 c =
-    let s = c.before.before.before in
+    let s = c in
     omega (arith, s.requires.2, (facts s.args.f s.args.map.now s.requires.0).map.covers)
 
-cast-result : tie.Need-overflow-cast-result
+cast-result : tie.Need-overflow_cast-result
 cast-result c = search rules
 
-returns : tie.Need-returns
+returns : tie.Need-returns-then-map-cell-eq0
 unfolding owed
-returns c = rw (eq-eqb _ _ c.if1.true)
+returns c = rw (eq-eqb _ _ c.if-map-cell-eq0.true)
 
-due-at-requires : tie.Need-due-at-requires
+due-at-requires : tie.Need-due_at-requires
 due-at-requires c κs = search rules
 
-returns-2 : tie.Need-returns-2
+returns-2 : tie.Need-returns
 unfolding owed
-returns-2 c = rw (ne_eqb _ _ c.before.if1.false) c.due-at.ensures
+returns-2 c = rw (ne_eqb _ _ c.if-map-cell-eq0.false) c.due_at.ensures
 
-pub owed-at-spec : {M : Type 1} → statement M
-owed-at-spec = tie.close (tie.spec shared-slice-read-if1 cast-result returns due-at-requires returns-2)
+pub owed_at_spec : {M : Type 1} → statement M
+owed_at_spec = tie.close (tie.spec shared-slice-read-if1 cast-result returns due-at-requires returns-2)

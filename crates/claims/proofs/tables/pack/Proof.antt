@@ -8,41 +8,41 @@ use Rattle.claims.specs.Table.{numbers_of, as_fault}
 use Rattle.claims.proofs.tables.pack.Statement.{statement}
 use Rattle.claims.proofs.tables.pack.Tie as tie
 
-enum-known-verdict : tie.Need-enum-known-verdict
+enum-known-verdict : tie.Need-enum_known-verdict
 enum-known-verdict c = search rules
 
-cast-result : tie.Need-overflow-cast-result
+cast-result : tie.Need-overflow_cast-result
 cast-result c = search rules
 
-mul-result : tie.Need-overflow-mul-result
+mul-result : tie.Need-overflow_mul-result
 mul-result c = search rules
 
-add-result : tie.Need-overflow-add-result
-add-result c = omega (arith, ap (λ (v : TableVerdict). value_of (as_fault (numbers_of v))) c.before.verdict.given.1)
+add-result : tie.Need-overflow_add-result
+add-result c = omega (arith, ap (λ (v : TableVerdict). value_of (as_fault (numbers_of v))) c.in-Refused.is)
 
-enum_told : tie.Need-enum-told
+enum_told : tie.Need-enum_told-1
 enum_told c = search rules
 
-enum-known-verdict-2 : tie.Need-enum-known-verdict-2
+enum-known-verdict-2 : tie.Need-enum_known-verdict-in-Breaks-1
 enum-known-verdict-2 c = search rules
 
-mul-result-2 : tie.Need-overflow-mul-result-2
+mul-result-2 : tie.Need-overflow_mul-result-in-Breaks
 mul-result-2 c = search rules
 
-add-result-2 : tie.Need-overflow-add-result-2
-add-result-2 c = omega (arith, ap (λ (v : TableVerdict). value_of (as_fault (numbers_of v))) c.before.verdict2.given.1)
+add-result-2 : tie.Need-overflow_add-result-in-Breaks
+add-result-2 c = omega (arith, ap (λ (v : TableVerdict). value_of (as_fault (numbers_of v))) c.in-Breaks.is)
 
-returns : tie.Need-returns
-returns c = rw c.before.verdict.given.1
+returns : tie.Need-returns-in-Refused
+returns c = rw c.in-Refused.is
 
-returns-2 : tie.Need-returns-2
-returns-2 c = rw c.enum_told.given.1
+returns-2 : tie.Need-returns-in-Right
+returns-2 c = rw c.in-Right.is
 
-returns-3 : tie.Need-returns-3
-returns-3 c = rw c.before.verdict2.given.1
+returns-3 : tie.Need-returns-in-Breaks
+returns-3 c = rw c.in-Breaks.is
 
-pub pack-spec : {M : Type 1} → statement M
-pack-spec =
+pub pack_spec : {M : Type 1} → statement M
+pack_spec =
     tie.close
     (tie.spec
     enum-known-verdict

@@ -18,52 +18,52 @@ use Rattle.claims.proofs.Passing.{table_lines_lem}
 use Rattle.claims.proofs.tables.screen_table.Statement.{statement}
 use Rattle.claims.proofs.tables.screen_table.Tie as tie
 
-screen-question-requires : tie.Need-screen-question-requires
+screen-question-requires : tie.Need-screen_question-question-requires
 screen-question-requires c κs = search rules
 
-enum-known-question : tie.Need-enum-known-question
+enum-known-question : tie.Need-enum_known-question
 enum-known-question c = search rules
 
-enum_told : tie.Need-enum-told
+enum_told : tie.Need-enum_told-1
 enum_told c = search rules
 
-module _ (c : tie.After-screen-question) where
+module _ (c : tie.After-screen_question-question) where
   abbrev f : Floor
-  f = c.before.before.before.args.f
+  f = c.args.f
 
   abbrev map : List ℕ
-  map = c.before.before.before.args.map.now
+  map = c.args.map.now
 
   abbrev start : ℕ
-  start = c.before.before.before.args.start
+  start = c.args.start
 
   abbrev costs : List ℕ
-  costs = c.before.before.before.args.costs.now
+  costs = c.args.costs.now
 
-  after : (s : Screen) → c.screen-question.result ≡ s → screen (table_lines f map start costs) ≡ and_then s (screen (costs_line f costs ∷ []))
+  after : (s : Screen) → c.screen_question-question.result ≡ s → screen (table_lines f map start costs) ≡ and_then s (screen (costs_line f costs ∷ []))
   after s e =
       table_lines_lem f map start costs
-      ∙ screen_after (question_lines f map start start) (costs_line f costs ∷ []) _ s c.screen-question.ensures e
+      ∙ screen_after (question_lines f map start start) (costs_line f costs ∷ []) _ s c.screen_question-question.ensures e
 
-  covers : c.screen-question.result ≡ Passed → length map ≡ cells f
-  covers e = question_covers f map start start (sym c.screen-question.ensures ∙ e)
+  covers : c.screen_question-question.result ≡ Passed → length map ≡ cells f
+  covers e = question_covers f map start start (sym c.screen_question-question.ensures ∙ e)
 
-returns : tie.Need-returns
+returns : tie.Need-returns-then-costs-map
 returns c =
     let t = c.before.before.before in
-    let e = c.before.enum_told.given.1 in
+    let e = c.in-Passed.is in
     rw (after t Passed e, lt-ltb (length (costs t)) (cells (f t)) (omega (arith, covers t e)))
 
-returns-2 : tie.Need-returns-2
-returns-2 c = rw (after c.before.before.before _ c.before.question.given.1)
+returns-2 : tie.Need-returns-in-Refused
+returns-2 c = rw (after c.before.before.before _ c.in-Refused.is)
 
-returns-3 : tie.Need-returns-3
+returns-3 : tie.Need-returns-else-costs-map
 returns-3 c =
     let t = c.before.before.before in
-    let e = c.before.enum_told.given.1 in
+    let e = c.in-Passed.is in
     rw (after t Passed e, le-ltb (length (costs t)) (cells (f t)) (omega (arith, covers t e)))
 
-pub screen-table-spec : {M : Type 1} → statement M
-screen-table-spec =
+pub screen_table_spec : {M : Type 1} → statement M
+screen_table_spec =
     tie.close
     (tie.spec screen-question-requires enum-known-question enum_told returns returns-2 returns-3)

@@ -7,10 +7,10 @@ use Rattle.desk.proofs.Buffers.{answered_at}
 use Rattle.desk.proofs.records.answer_at.Statement.{statement}
 use Rattle.desk.proofs.records.answer_at.Tie as tie
 
-add-end : tie.Need-overflow-add-end
+add-end : tie.Need-overflow_add-end
 add-end c = search rules
 
-sub-ask : tie.Need-overflow-sub-ask
+sub-ask : tie.Need-slice_bounds-ask-count
 sub-ask c = search rules
 
 part-ask-start : tie.Need-slice-bounds-ask-start
@@ -19,45 +19,45 @@ part-ask-start c = search rules
 part-ask-end : tie.Need-slice-bounds-ask-end
 part-ask-end c = search rules
 
-ask-requires : tie.Need-ask-requires
+ask-requires : tie.Need-ask-answer-requires
 ask-requires c κs = search rules
 
-record-of-requires : tie.Need-record-of-requires
+record-of-requires : tie.Need-record_of-record-requires
 record-of-requires c κs =
-    let x = c.before.before.before.before.before.before in
-    let k = x.before.before.before.before.before.before.before.before.before in
-    let s = k.before.before in
-    let small = small_part s.args.records.now s.args.at (s.args.at + record_size - s.args.at) (λ v. (k.slice-known.given v).fits) in
-    (answers_fit s.args.f s.args.map.now _ _ small x.ask.ensures).refusal_fits
+    let x = c in
+    let k = x in
+    let s = k in
+    let small = small_part s.args.records.now s.args.at (s.args.at + record_size - s.args.at) (λ v. (k.slice_known-1.given v).fits) in
+    (answers_fit s.args.f s.args.map.now _ _ small x.ask-answer.ensures).refusal_fits
 
-slice-aggregate-put : tie.Need-slice-aggregate-put
+slice-aggregate-put : tie.Need-slice_bounds-put-end
 slice-aggregate-put c = search rules
 
 put-requires : tie.Need-put-requires
 put-requires c κs = search rules
 
-same_length : tie.Need-same-length
+same_length : tie.Need-shape_of-records
 same_length c = search rules
 
-same-length-2 : tie.Need-same-length-2
+same-length-2 : tie.Need-shape_of-costs
 same-length-2 c = search rules
 
-same-length-3 : tie.Need-same-length-3
+same-length-3 : tie.Need-shape_of-work
 same-length-3 c = search rules
 
-same-length-4 : tie.Need-same-length-4
+same-length-4 : tie.Need-shape_of-route
 same-length-4 c = search rules
 
 returns : tie.Need-returns
 returns c =
-    let y = c.before.before in
-    let z = y.before.before.before in
-    let x = z.before.before.before.before.before.before.before in
-    let s = x.before.before.before.before.before.before.before.before.before.before.before in
-    answered_at x.ask.ensures z.record_of.ensures s.requires y.put.ensures
+    let y = c in
+    let z = y in
+    let x = z in
+    let s = x in
+    answered_at x.ask-answer.ensures z.record_of-record.ensures s.requires y.put.ensures
 
-pub answer-at-spec : {M : Type 1} → statement M
-answer-at-spec =
+pub answer_at_spec : {M : Type 1} → statement M
+answer_at_spec =
     tie.close
     (tie.spec
     add-end

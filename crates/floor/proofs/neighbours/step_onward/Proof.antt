@@ -25,20 +25,20 @@ passed c = (facts c.args.f c.args.map.now c.requires.0).map
 weight : (c : tie.Start) → c.args.around.weight ≡ get_or c.args.map.now c.args.cell 0
 weight c = rw c.requires.1 (around_weight (passed c) c.args.cell)
 
-is-direction-requires : tie.Need-is-direction-requires
+is-direction-requires : tie.Need-is_direction-requires
 is-direction-requires c κs = search rules
 
-direction : (c : tie.Then1) → is_direction c.before.before.before.args.f c.before.before.before.args.direction ≡ true
-direction c = sym c.before.is-direction.ensures ∙ c.if1.true
+direction : (c : tie.Then-is_direction) → is_direction c.args.f c.args.direction ≡ true
+direction c = sym c.is_direction.ensures ∙ c.if-is_direction.true
 
-returns : tie.Need-returns
+returns : tie.Need-returns-then-left-eq0
 returns c =
     let t = c.before in
     let s = t.before.before.before in
-    blocked_onward (passed s) s.args.cell s.args.direction (direction t) (sym (weight s) ∙ c.if2.true)
+    blocked_onward (passed s) s.args.cell s.args.direction (direction t) (sym (weight s) ∙ c.if-left-eq0.true)
 
 -- the cell is open, and so on the map
-module _ (c : tie.Else2) where
+module _ (c : tie.Else-left-eq0) where
   abbrev s : tie.Start
   s = c.before.before.before.before
 
@@ -51,61 +51,61 @@ module _ (c : tie.Else2) where
   below : s.args.direction < 8
   below = direction_lt s.args.f s.args.direction (true_T _ (direction c.before))
 
-weight-ahead-requires : tie.Need-weight-ahead-requires
+weight-ahead-requires : tie.Need-weight_ahead-entered-requires
 weight-ahead-requires c κs = ((s c).requires.0, inside c, (s c).requires.1, below c)
 
-returns-2 : tie.Need-returns-2
+returns-2 : tie.Need-returns-then-entered-eq0
 returns-2 c =
     let e = c.before.before in
-    barred_onward (passed (s e)) (s e).args.cell (s e).args.direction (direction e.before) (leaves e) (sym c.before.weight-ahead.ensures ∙ c.if3.true)
+    barred_onward (passed (s e)) (s e).args.cell (s e).args.direction (direction e.before) (leaves e) (sym c.weight_ahead-entered.ensures ∙ c.if-entered-eq0.true)
 
 -- the weight ahead is above 0
-module _ (c : tie.Else3) where
-  abbrev e : tie.Else2
+module _ (c : tie.Else-entered-eq0) where
+  abbrev e : tie.Else-left-eq0
   e = c.before.before
 
   free : 0 < weight_ahead (s e).args.f (s e).args.map.now (s e).args.cell (s e).args.direction
-  free = omega (arith, c.before.weight-ahead.ensures)
+  free = omega (arith, c.weight_ahead-entered.ensures)
 
-direction-at-requires : tie.Need-direction-at-requires
+direction-at-requires : tie.Need-direction_at-d-requires
 direction-at-requires c κs = below (e c)
 
-neighbour-requires : tie.Need-neighbour-requires
+neighbour-requires : tie.Need-neighbour-to-requires
 neighbour-requires c κs =
     let x = c.before in
     let k = passed (s (e x)) in
     let there = free_on_map k (s (e x)).args.cell (s (e x)).args.direction (direction (e x).before) (leaves (e x)) (free x) in
-    (omega (arith, inside (e x), few_cells k, k.wide_top), c.direction-at.ensures.1, rw c.direction-at.ensures.0 there)
+    (omega (arith, inside (e x), few_cells k, k.wide_top), c.direction_at-d.ensures.1, rw c.direction_at-d.ensures.0 there)
 
-step-cost-requires : tie.Need-step-cost-requires
+step-cost-requires : tie.Need-step_cost-requires
 step-cost-requires c κs =
     let x = c.before.before in
     let z = s (e x) in
     let k = passed z in
-    let ahead = x.before.weight-ahead.ensures ∙ free_weight k z.args.cell z.args.direction (direction (e x).before) (leaves (e x)) (free x) in (
+    let ahead = x.weight_ahead-entered.ensures ∙ free_weight k z.args.cell z.args.direction (direction (e x).before) (leaves (e x)) (free x) in (
       omega (arith, weight z, k.weights z.args.cell),
       omega (arith, ahead, k.weights (cell_at z.args.f (moved (place_of z.args.f z.args.cell) z.args.direction))),
-      c.before.direction-at.ensures.1,
+      c.direction_at-d.ensures.1,
     )
 
 same_step : {w w' a a' b b' c : ℕ} {o : Onward} (u : ℕ) → w ≡ w' → c ≡ u * (a + b) → a ≡ a' → b ≡ b' → Enters w' (u * (a' + b')) ≡ o → Enters w c ≡ o
 same_step u e h p q o = rw (e, h, p, q) o
 
-returns-3 : tie.Need-returns-3
+returns-3 : tie.Need-returns-then-is_direction
 returns-3 c =
     let n = c.before in
-    let row = n.before.direction-at.ensures.0 in
+    let row = n.direction_at-d.ensures.0 in
     let x = n.before.before in
-    same_step (row_of (s (e x)).args.direction).unit (rw row at n.neighbour.ensures) (rw row at c.step-cost.ensures) (weight (s (e x))) x.before.weight-ahead.ensures
+    same_step (row_of (s (e x)).args.direction).unit (rw row at n.neighbour-to.ensures) (rw row at c.step_cost.ensures) (weight (s (e x))) x.weight_ahead-entered.ensures
     (free_onward (passed (s (e x))) (s (e x)).args.cell (s (e x)).args.direction (direction (e x).before) (leaves (e x)) (free x))
 
-returns-4 : tie.Need-returns-4
+returns-4 : tie.Need-returns
 returns-4 c =
     let s = c.before.before.before in
-    no_direction_onward (passed s) s.args.cell s.args.direction (sym c.before.is-direction.ensures ∙ c.if1.false)
+    no_direction_onward (passed s) s.args.cell s.args.direction (sym c.is_direction.ensures ∙ c.if-is_direction.false)
 
-pub step-onward-spec : {M : Type 1} → statement M
-step-onward-spec =
+pub step_onward_spec : {M : Type 1} → statement M
+step_onward_spec =
     tie.close
     (tie.spec
     is-direction-requires

@@ -19,37 +19,37 @@ passed c = (facts c.args.f c.args.map.now c.requires.0).map
 straight-requires : tie.Need-straight-requires
 straight-requires c κs = search rules
 
-returns : tie.Need-returns
+returns : tie.Need-returns-then-direction-eq0
 returns c =
-    let s = c.before.before.before in
-    c.straight.ensures ∙ sym (ahead_straight s.args.f s.args.map.now s.args.cell s.args.direction c.before.if1.true)
+    let s = c in
+    c.straight.ensures ∙ sym (ahead_straight s.args.f s.args.map.now s.args.cell s.args.direction c.if-direction-eq0.true)
 
-sub-straight : tie.Need-overflow-sub-straight
+sub-straight : tie.Need-overflow_sub-direction
 sub-straight c = search rules
 
 straight-requires-2 : tie.Need-straight-requires-2
 straight-requires-2 c κs = search rules
 
-returns-2 : tie.Need-returns-2
+returns-2 : tie.Need-returns-then-straight-eq0
 returns-2 c =
-    let s = c.before.before.before.before in
-    let beside = sym c.before.straight2.ensures ∙ c.if2.true in
+    let s = c in
+    let beside = sym c.straight-2.ensures ∙ c.if-straight-eq0.true in
     sym (ahead_before s.args.f s.args.map.now s.args.cell s.args.direction s.requires.3 (omega arith) beside)
 
-add-straight : tie.Need-overflow-add-straight
+add-straight : tie.Need-overflow_add-direction
 add-straight c = search rules
 
 straight-requires-3 : tie.Need-straight-requires-3
 straight-requires-3 c κs = search rules
 
-returns-3 : tie.Need-returns-3
+returns-3 : tie.Need-returns-then-straight-eq0-2
 returns-3 c =
-    let s = c.before.before.before.before.before.before in
-    let beside = sym c.before.straight3.ensures ∙ c.if3.true in
+    let s = c in
+    let beside = sym c.straight-3.ensures ∙ c.if-straight-eq0-2.true in
     sym (ahead_after s.args.f s.args.map.now s.args.cell s.args.direction s.requires.3 (omega arith) beside)
 
 -- both cells beside the step are open
-module _ (c : tie.Else3) where
+module _ (c : tie.Else-straight-eq0-2) where
   abbrev s : tie.Start
   s = c.before.before.before.before.before.before
 
@@ -57,31 +57,31 @@ module _ (c : tie.Else3) where
   odd = omega arith
 
   one : 0 < weight_beside s.args.f s.args.map.now s.args.cell (s.args.direction - 1)
-  one = omega (arith, c.before.before.before.straight2.ensures)
+  one = omega (arith, c.straight-2.ensures)
 
   other : 0 < weight_beside s.args.f s.args.map.now s.args.cell ((s.args.direction + 1) % 8)
-  other = omega (arith, c.before.straight3.ensures)
+  other = omega (arith, c.straight-3.ensures)
 
   ahead : T (on_map s.args.f (moved (place_of s.args.f s.args.cell) s.args.direction))
-  ahead = ahead_on_map s.args.f s.args.map.now s.args.cell s.args.direction s.pre.3 odd one other
+  ahead = ahead_on_map s.args.f s.args.map.now s.args.cell s.args.direction s.requires.3 odd one other
 
   weighs : weight_ahead s.args.f s.args.map.now s.args.cell s.args.direction ≡ get_or s.args.map.now (cell_at s.args.f (moved (place_of s.args.f s.args.cell) s.args.direction)) 0
-  weighs = ahead_diagonal s.args.f s.args.map.now s.args.cell s.args.direction s.pre.3 odd one other
+  weighs = ahead_diagonal s.args.f s.args.map.now s.args.cell s.args.direction s.requires.3 odd one other
 
-direction-at-requires : tie.Need-direction-at-requires
+direction-at-requires : tie.Need-direction_at-d-requires
 direction-at-requires c κs = (s c).requires.3
 
-neighbour-requires : tie.Need-neighbour-requires
+neighbour-requires : tie.Need-neighbour-to-requires
 neighbour-requires c κs =
     let e = c.before in
     let k = passed (s e) in
-    (omega (arith, (s e).requires.1, few_cells k, k.wide_top), c.direction-at.ensures.1, rw c.direction-at.ensures.0 (ahead e))
+    (omega (arith, (s e).requires.1, few_cells k, k.wide_top), c.direction_at-d.ensures.1, rw c.direction_at-d.ensures.0 (ahead e))
 
 -- the cell that the step enters
-enters : (c : tie.After-neighbour) → let s = s c.before.before in c.neighbour.result ≡ cell_at s.args.f (moved (place_of s.args.f s.args.cell) s.args.direction)
-enters c = rw c.before.direction-at.ensures.0 at c.neighbour.ensures
+enters : (c : tie.After-neighbour-to) → let s = s c.before.before in c.neighbour-to.result ≡ cell_at s.args.f (moved (place_of s.args.f s.args.cell) s.args.direction)
+enters c = rw c.direction_at-d.ensures.0 at c.neighbour-to.ensures
 
-shared-slice-read-widened : tie.Need-shared-slice-read-widened
+shared-slice-read-widened : tie.Need-bounds-map-to
 shared-slice-read-widened c =
     let e = c.before.before.before in
     let l = cell_lt (s e).args.f (moved (place_of (s e).args.f (s e).args.cell) (s e).args.direction) (ahead e) in
@@ -90,13 +90,13 @@ shared-slice-read-widened c =
 widened-requires : tie.Need-widened-requires
 widened-requires c κs = search rules
 
-returns-4 : tie.Need-returns-4
+returns-4 : tie.Need-returns
 returns-4 c =
     let n = c.before.before in
     c.widened.ensures.0 ∙ rw (enters n) (sym (weighs n.before.before))
 
-pub weight-ahead-spec : {M : Type 1} → statement M
-weight-ahead-spec =
+pub weight_ahead_spec : {M : Type 1} → statement M
+weight_ahead_spec =
     tie.close
     (tie.spec
     straight-requires

@@ -23,22 +23,22 @@ stays-requires c κs =
     let o = on_map_lem s.args.f s.args.here s.requires.0 in
     (o.west, o.east, rw (east s) s.requires.1.east)
 
-stays-requires-2 : tie.Need-stays-requires-2
+stays-requires-2 : tie.Need-stays-requires-then-stays
 stays-requires-2 c κs =
     let s = c.before.before.before.before in
     let o = on_map_lem s.args.f s.args.here s.requires.0 in
     (o.north, o.south, rw (south s) s.requires.1.south)
 
-returns : tie.Need-returns
+returns : tie.Need-returns-then-stays
 unfolding on_map
 returns c =
     let t = c.before.before.before in
     let s = t.before.before in
-    rw (← east s, sym t.stays.ensures ∙ c.before.before.if1.true, ← south s) c.stays2.ensures
+    rw (← east s, sym t.stays.ensures ∙ c.if-stays.true, ← south s) c.stays-then-stays.ensures
 
-returns-2 : tie.Need-returns-2
+returns-2 : tie.Need-returns
 unfolding on_map
-returns-2 c = rw (← east c.before.before.before, sym c.before.stays.ensures ∙ c.if1.false)
+returns-2 c = rw (← east c.before.before.before, sym c.stays.ensures ∙ c.if-stays.false)
 
-pub leads-to-map-spec : {M : Type 1} → statement M
-leads-to-map-spec = tie.close (tie.spec stays-requires stays-requires-2 returns returns-2)
+pub leads_to_map_spec : {M : Type 1} → statement M
+leads_to_map_spec = tie.close (tie.spec stays-requires stays-requires-2 returns returns-2)

@@ -21,17 +21,17 @@ east c = search rules
 south : (c : tie.Start) → to_z w32 (of_z w32 c.args.d.dy) ≡ c.args.d.dy
 south c = search rules
 
-shifted-requires : tie.Need-shifted-requires
+shifted-requires : tie.Need-shifted-southward-requires
 shifted-requires c κs =
     let s = c.before in
     (rw (south s) (moves s).rows_fit, omega (arith, s.requires.0), omega (arith, s.requires.0), rw (south s) s.requires.1.south)
 
-along : (c : tie.After-shifted) →
-    let s = c.before.before in
-    c.shifted.result ≡ s.args.cell + plus_one s.args.d.dy * s.args.f.width - s.args.f.width
-along c = rw (south c.before.before) at c.shifted.ensures
+along : (c : tie.After-shifted-southward) →
+    let s = c in
+    c.shifted-southward.result ≡ s.args.cell + plus_one s.args.d.dy * s.args.f.width - s.args.f.width
+along c = rw (south c.before.before) at c.shifted-southward.ensures
 
-shifted-requires-2 : tie.Need-shifted-requires-2
+shifted-requires-2 : tie.Need-shifted-requires
 shifted-requires-2 c κs =
     let s = c.before.before.before in
     let rows = mul-le-mul_right s.args.f.width s.requires.1.south in
@@ -41,7 +41,7 @@ returns : tie.Need-returns
 returns c =
     let t = c.before.before in
     let s = t.before.before in
-    rw (along t, east s) at c.shifted2.ensures ∙ (moves s).there
+    rw (along t, east s) at c.shifted.ensures ∙ (moves s).there
 
-pub neighbour-spec : {M : Type 1} → statement M
-neighbour-spec = tie.close (tie.spec shifted-requires shifted-requires-2 returns)
+pub neighbour_spec : {M : Type 1} → statement M
+neighbour_spec = tie.close (tie.spec shifted-requires shifted-requires-2 returns)

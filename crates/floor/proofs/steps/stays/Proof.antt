@@ -9,15 +9,15 @@ use Rattle.floor.proofs.Rows.{offset_none, offset_forth, offset_back}
 use Rattle.floor.proofs.steps.stays.Statement.{statement}
 use Rattle.floor.proofs.steps.stays.Tie as tie
 
-returns : tie.Need-returns
+returns : tie.Need-returns-then-by-eq0
 returns c =
-    let s = c.before in
+    let s = c in
     let one = offset_none s.ranges.by s.requires.2 (omega arith) in
     rw one (rw (lt-ltb 0 (s.args.n + 1 - 1) (omega (arith, s.requires.0)), le-leb (s.args.n + 1 - 1) s.args.side (omega (arith, s.requires.1))))
 
-returns-2 : tie.Need-returns-2
+returns-2 : tie.Need-returns-then-by-eq1
 returns-2 c =
-    let s = c.before.before in
+    let s = c in
     let n = s.args.n in
     let side = s.args.side in
     let two = offset_forth s.ranges.by s.requires.2 (omega arith) in
@@ -25,9 +25,9 @@ returns-2 c =
     (λ t. and_T (ltb 0 (n + 2 - 1)) (leb (n + 2 - 1) side) (lt→ltb 0 (n + 2 - 1) (omega arith)) (le→leb (n + 2 - 1) side (omega (arith, ltb→lt n side t))))
     (λ t. lt→ltb n side (omega (arith, leb→le (n + 2 - 1) side (T_and (ltb 0 (n + 2 - 1)) (leb (n + 2 - 1) side) t).1))))
 
-returns-3 : tie.Need-returns-3
+returns-3 : tie.Need-returns
 returns-3 c =
-    let s = c.before.before in
+    let s = c in
     let n = s.args.n in
     let side = s.args.side in
     let none = offset_back s.ranges.by s.requires.2 (omega arith) (omega arith) in
@@ -35,5 +35,5 @@ returns-3 c =
     (λ t. and_T (ltb 0 (n + 0 - 1)) (leb (n + 0 - 1) side) (lt→ltb 0 (n + 0 - 1) (omega (arith, ltb→lt 1 n t))) (le→leb (n + 0 - 1) side (omega (arith, s.requires.1))))
     (λ t. lt→ltb 1 n (omega (arith, ltb→lt 0 (n + 0 - 1) (T_and (ltb 0 (n + 0 - 1)) (leb (n + 0 - 1) side) t).0))))
 
-pub stays-spec : {M : Type 1} → statement M
-stays-spec = tie.close (tie.spec returns returns-2 returns-3)
+pub stays_spec : {M : Type 1} → statement M
+stays_spec = tie.close (tie.spec returns returns-2 returns-3)

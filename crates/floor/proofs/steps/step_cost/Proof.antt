@@ -7,18 +7,18 @@ use borrow.Author.Rules.{rules}
 use Rattle.floor.proofs.steps.step_cost.Statement.{statement}
 use Rattle.floor.proofs.steps.step_cost.Tie as tie
 
-weight-between-requires : tie.Need-weight-between-requires
+weight-between-requires : tie.Need-weight_between-requires
 weight-between-requires c κs = search rules
 
-mul-result : tie.Need-overflow-mul-result
+mul-result : tie.Need-overflow_mul-result
 mul-result c =
-    let w = c.before.weight-between in
-    let pre = c.before.before.requires in
+    let w = c.weight_between in
+    let pre = c.requires in
     let small : w.result ≤ 510 = omega (arith, w.ensures, pre.0, pre.1) in
     omega (arith, mul-le-mul pre.2.unit small)
 
 returns : tie.Need-returns
-returns c = ap (λ (w : ℕ). c.before.before.args.d.unit * w) c.before.weight-between.ensures
+returns c = ap (λ (w : ℕ). c.args.d.unit * w) c.weight_between.ensures
 
-pub step-cost-spec : {M : Type 1} → statement M
-step-cost-spec = tie.close (tie.spec weight-between-requires mul-result returns)
+pub step_cost_spec : {M : Type 1} → statement M
+step_cost_spec = tie.close (tie.spec weight-between-requires mul-result returns)

@@ -12,31 +12,31 @@ use Rattle.floor.proofs.steps.step_test.Tie as tie
 passed : (c : tie.Start) → MapFacts c.args.f c.args.map.now
 passed c = (facts c.args.f c.args.map.now c.requires).map
 
-place-of-requires : tie.Need-place-of-requires
+place-of-requires : tie.Need-place_of-here-requires
 place-of-requires c κs = let k = passed c.before.before in (k.wide, omega (arith, few_cells k, k.covers))
 
-step-at-requires : tie.Need-step-at-requires
+step-at-requires : tie.Need-step_at-requires
 step-at-requires c κs =
     let s = c.before.before.before in
-    (s.requires, omega (arith, (passed s).covers), c.place_of_lem.ensures)
+    (s.requires, omega (arith, (passed s).covers), c.place_of-here.ensures)
 
-returns : tie.Need-returns
+returns : tie.Need-returns-then-cell-map
 returns c = search rules
 
-is-direction-requires : tie.Need-is-direction-requires
+is-direction-requires : tie.Need-is_direction-requires
 is-direction-requires c κs = search rules
 
-returns-2 : tie.Need-returns-2
+returns-2 : tie.Need-returns-then-is_direction
 unfolding step_of
 returns-2 c =
     let s = c.before.before.before.before in
-    rw (sym c.before.is-direction.ensures ∙ c.if2.true, le-ltb s.args.cell (cells s.args.f) (omega (arith, (passed s).covers)))
+    rw (sym c.is_direction.ensures ∙ c.if-is_direction.true, le-ltb s.args.cell (cells s.args.f) (omega (arith, (passed s).covers)))
 
-returns-3 : tie.Need-returns-3
+returns-3 : tie.Need-returns
 unfolding step_of
-returns-3 c = rw (sym c.before.is-direction.ensures ∙ c.if2.false)
+returns-3 c = rw (sym c.is_direction.ensures ∙ c.if-is_direction.false)
 
-pub step-test-spec : {M : Type 1} → statement M
-step-test-spec =
+pub step_test_spec : {M : Type 1} → statement M
+step_test_spec =
     tie.close
     (tie.spec place-of-requires step-at-requires returns is-direction-requires returns-2 returns-3)

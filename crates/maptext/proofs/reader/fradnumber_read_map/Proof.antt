@@ -5,20 +5,20 @@ use Rattle.maptext.specs.Calls.{read_numbers}
 use Rattle.maptext.proofs.reader.fradnumber_read_map.Statement.{statement}
 use Rattle.maptext.proofs.reader.fradnumber_read_map.Tie as tie
 
-read-map-requires : tie.Need-read-map-requires
+read-map-requires : tie.Need-read_map-read-requires
 read-map-requires c κs = search rules
 
-read-numbers-requires : tie.Need-read-numbers-requires
+read-numbers-requires : tie.Need-read_numbers-requires
 read-numbers-requires c κs = search rules
 
-same_length : tie.Need-same-length
+same_length : tie.Need-shape_of-cells
 same_length c = search rules
 
 returns : tie.Need-returns
 returns c =
-    let read = c.before.before.before.read_map.ensures in
-    record { numbers = c.read-numbers.ensures ∙ ap read_numbers read.answers; leaves = read.leaves }
+    let read = c.read_map-read.ensures in
+    record { numbers = c.read_numbers.ensures ∙ ap read_numbers read.answers; leaves = read.leaves }
 
-pub fradnumber-read-map-spec : {M : Type 1} → statement M
-fradnumber-read-map-spec =
+pub fradnumber_read_map_spec : {M : Type 1} → statement M
+fradnumber_read_map_spec =
     tie.close (tie.spec read-map-requires read-numbers-requires same_length returns)

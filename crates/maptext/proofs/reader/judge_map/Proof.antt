@@ -18,168 +18,168 @@ use Rattle.maptext.proofs.reader.judge_map.Statement.{statement}
 use Rattle.maptext.proofs.reader.judge_map.Tie as tie
 
 -- from each line that was found back to the one before it
-abbrev line₁ : tie.Else2 → tie.Then1
+abbrev line₁ : tie.Else-height-gt-GREATEST_SIDE → tie.Then-begins_at
 line₁ c = c.before.before.before
 
-abbrev line₂ : tie.Else3 → tie.Else2
+abbrev line₂ : tie.Else-width-gt-GREATEST_SIDE → tie.Else-height-gt-GREATEST_SIDE
 line₂ c = c.before.before.before.before.before
 
-abbrev line₃ : tie.Then4 → tie.Else3
+abbrev line₃ : tie.Then-begins_at-2 → tie.Else-width-gt-GREATEST_SIDE
 line₃ c = c.before.before.before.before.before
 
-abbrev text₁ : tie.Then1 → List ℕ
-text₁ c = c.before.before.before.before.args.text.now
+abbrev text₁ : tie.Then-begins_at → List ℕ
+text₁ c = c.args.text.now
 
-abbrev text₂ : tie.Else2 → List ℕ
+abbrev text₂ : tie.Else-height-gt-GREATEST_SIDE → List ℕ
 text₂ c = text₁ (line₁ c)
 
-abbrev text₃ : tie.Else3 → List ℕ
+abbrev text₃ : tie.Else-width-gt-GREATEST_SIDE → List ℕ
 text₃ c = text₂ (line₂ c)
 
-abbrev text₄ : tie.Then4 → List ℕ
+abbrev text₄ : tie.Then-begins_at-2 → List ℕ
 text₄ c = text₃ (line₃ c)
 
 -- where the code has the third and the fourth line start
-abbrev width_place : tie.After-side-line-length → ℕ
-width_place c = 12 + c.side-line-length.result
+abbrev width_place : tie.After-side_line_length-width_at → ℕ
+width_place c = 12 + c.side_line_length-width_at.result
 
-abbrev map_place : tie.After-side-line-length2 → ℕ
-map_place c = width_place c.before.before.before.before.before + c.side-line-length2.result
+abbrev map_place : tie.After-side_line_length → ℕ
+map_place c = width_place c.before.before.before.before.before + c.side_line_length.result
 
 slice-aggregate-begins-at : tie.Need-slice-aggregate-begins-at
 slice-aggregate-begins-at c = search rules
 
-begins-at-requires : tie.Need-begins-at-requires
+begins-at-requires : tie.Need-begins_at-requires
 begins-at-requires c κs = search rules
 
-first : (c : tie.Then1) → begins type_line (text₁ c) ≡ true
-first c = sym c.before.begins-at.ensures ∙ c.if1.true
+first : (c : tie.Then-begins_at) → begins type_line (text₁ c) ≡ true
+first c = sym c.begins_at.ensures ∙ c.if-begins_at.true
 
 slice-aggregate-side-at : tie.Need-slice-aggregate-side-at
 slice-aggregate-side-at c = search rules
 
-side-at-requires : tie.Need-side-at-requires
+side-at-requires : tie.Need-side_at-height-requires
 side-at-requires c κs = (omega arith, height_within (text₁ c.before) (first c.before))
 
-returns : tie.Need-returns
-returns c = refused_22 _ _ (first c.before.before.before) (omega (arith, c.before.side-at.ensures))
+returns : tie.Need-returns-then-height-gt-GREATEST_SIDE
+returns c = refused_22 _ _ (first c.before.before.before) (omega (arith, c.side_at-height.ensures))
 
-second : (c : tie.Else2) → height_in (text₂ c) ≤ greatest_side
-second c = omega (arith, c.before.side-at.ensures)
+second : (c : tie.Else-height-gt-GREATEST_SIDE) → height_in (text₂ c) ≤ greatest_side
+second c = omega (arith, c.side_at-height.ensures)
 
 slice-aggregate-side-line-length : tie.Need-slice-aggregate-side-line-length
 slice-aggregate-side-line-length c = search rules
 
-side-line-length-requires : tie.Need-side-line-length-requires
+side-line-length-requires : tie.Need-side_line_length-width_at-requires
 side-line-length-requires c κs = search rules
 
-width_at_lem : (c : tie.After-side-line-length) → width_place c ≡ width_at (text₂ c.before.before)
-width_at_lem c = cc (c.side-line-length.ensures, c.before.before.before.side-at.ensures)
+width_at_lem : (c : tie.After-side_line_length-width_at) → width_place c ≡ width_at (text₂ c.before.before)
+width_at_lem c = cc (c.side_line_length-width_at.ensures, c.side_at-height.ensures)
 
-width_in_text : (c : tie.After-side-line-length) → width_place c ≤ length (text₂ c.before.before)
+width_in_text : (c : tie.After-side_line_length-width_at) → width_place c ≤ length (text₂ c.before.before)
 width_in_text c = let d = c.before.before in rw (width_at_lem c) (width_within (text₂ d) (first (line₁ d)) (second d))
 
-add-width-at : tie.Need-overflow-add-width-at
+add-width-at : tie.Need-overflow_add-width_at
 add-width-at c = omega (arith, width_in_text c)
 
 slice-aggregate-side-at-2 : tie.Need-slice-aggregate-side-at-2
 slice-aggregate-side-at-2 c = search rules
 
-side-at-requires-2 : tie.Need-side-at-requires-2
+side-at-requires-2 : tie.Need-side_at-width-requires
 side-at-requires-2 c κs = (omega arith, width_in_text c.before)
 
-width_is : (c : tie.After-side-at2) → c.side-at2.result ≡ width_in (text₂ c.before.before.before.before)
-width_is c = c.side-at2.ensures ∙ rw (width_at_lem c.before.before)
+width_is : (c : tie.After-side_at-width) → c.side_at-width.result ≡ width_in (text₂ c.before.before.before.before)
+width_is c = c.side_at-width.ensures ∙ rw (width_at_lem c.before.before)
 
-returns-2 : tie.Need-returns-2
+returns-2 : tie.Need-returns-then-width-gt-GREATEST_SIDE
 returns-2 c =
     let d = c.before.before.before.before.before in
     rw (width_at_lem c.before.before.before) (refused_23 _ _ (first (line₁ d)) (second d) (omega (arith, width_is c.before)))
 
-third : (c : tie.Else3) → width_in (text₃ c) ≤ greatest_side
+third : (c : tie.Else-width-gt-GREATEST_SIDE) → width_in (text₃ c) ≤ greatest_side
 third c = omega (arith, width_is c.before)
 
 slice-aggregate-side-line-length-2 : tie.Need-slice-aggregate-side-line-length-2
 slice-aggregate-side-line-length-2 c = search rules
 
-side-line-length-requires-2 : tie.Need-side-line-length-requires-2
+side-line-length-requires-2 : tie.Need-side_line_length-requires
 side-line-length-requires-2 c κs = search rules
 
-map_at_lem : (c : tie.After-side-line-length2) → map_place c ≡ map_at (text₃ c.before.before)
-map_at_lem c = cc (width_at_lem c.before.before.before.before.before, c.side-line-length2.ensures, width_is c.before.before.before)
+map_at_lem : (c : tie.After-side_line_length) → map_place c ≡ map_at (text₃ c.before.before)
+map_at_lem c = cc (width_at_lem c.before.before.before.before.before, c.side_line_length.ensures, width_is c.before.before.before)
 
-map_in_text : (c : tie.After-side-line-length2) → map_place c ≤ length (text₃ c.before.before)
+map_in_text : (c : tie.After-side_line_length) → map_place c ≤ length (text₃ c.before.before)
 map_in_text c = let d = c.before.before in rw (map_at_lem c) (map_within (text₃ d) (first (line₁ (line₂ d))) (second (line₂ d)) (third d))
 
-add-map-at : tie.Need-overflow-add-map-at
+add-map-at : tie.Need-overflow_add-map_at
 add-map-at c = omega (arith, map_in_text c)
 
 slice-aggregate-begins-at-2 : tie.Need-slice-aggregate-begins-at-2
 slice-aggregate-begins-at-2 c = search rules
 
-begins-at-requires-2 : tie.Need-begins-at-requires-2
+begins-at-requires-2 : tie.Need-begins_at-requires-then-begins_at
 begins-at-requires-2 c κs = map_in_text c.before
 
-fourth : (c : tie.Then4) → begins map_line (drop (map_at (text₄ c)) (text₄ c)) ≡ true
-fourth c = rw (map_at_lem c.before.before.before) at (sym c.before.begins-at2.ensures ∙ c.if4.true)
+fourth : (c : tie.Then-begins_at-2) → begins map_line (drop (map_at (text₄ c)) (text₄ c)) ≡ true
+fourth c = rw (map_at_lem c.before.before.before) at (sym c.begins_at-then-begins_at.ensures ∙ c.if-begins_at-2.true)
 
 -- the product of the sides that were read
-product : (c : tie.Then4) →
+product : (c : tie.Then-begins_at-2) →
     let width = c.before.before.before.before.before.before in
-    let height = width.before.before.before.before.before in
-    width.side-at2.result * height.side-at.result ≡ width_in (text₄ c) * height_in (text₄ c)
-product c = let width = c.before.before.before.before.before.before in cc (width_is width, width.before.before.before.before.before.side-at.ensures)
+    let height = width in
+    width.side_at-width.result * height.side_at-height.result ≡ width_in (text₄ c) * height_in (text₄ c)
+product c = let width = c.before.before.before.before.before.before in cc (width_is width, width.side_at-height.ensures)
 
-mul-if5 : tie.Need-overflow-mul-if5
+mul-if5 : tie.Need-overflow_mul-width
 mul-if5 c = omega (arith, product c, mul-le-mul (third (line₃ c)) (second (line₂ (line₃ c))))
 
-returns-3 : tie.Need-returns-3
+returns-3 : tie.Need-returns-then-room-width
 returns-3 c =
     let d = c.before in
     let e = line₃ d in
     refused_29 _ _ (first (line₁ (line₂ e))) (second (line₂ e)) (third e) (fourth d) (omega (arith, product d))
 
-rows_in_text : (c : tie.Then4) → map_place c.before.before.before + 4 ≤ length (text₄ c)
+rows_in_text : (c : tie.Then-begins_at-2) → map_place c.before.before.before + 4 ≤ length (text₄ c)
 rows_in_text c =
     let e = line₃ c in
     rw (map_at_lem c.before.before.before) (rows_within (text₄ c) (first (line₁ (line₂ e))) (second (line₂ e)) (third e) (fourth c))
 
-add-judge-rows : tie.Need-overflow-add-judge-rows
+add-judge-rows : tie.Need-overflow_add-map_at-then-begins_at-2
 add-judge-rows c = omega (arith, rows_in_text c.before)
 
-judge-rows-requires : tie.Need-judge-rows-requires
+judge-rows-requires : tie.Need-judge_rows-found-requires
 judge-rows-requires c κs = rows_in_text c.before
 
 answer-requires : tie.Need-answer-requires
 answer-requires c κs = search rules
 
-returns-4 : tie.Need-returns-4
+returns-4 : tie.Need-returns-then-begins_at-2
 returns-4 c =
     let j = c.before in
     let d = j.before.before in
     let width = d.before.before.before.before.before.before in
-    let height = width.before.before.before.before.before in
+    let height = width in
     let e = line₃ d in
     ap numbers_of
     (c.answer.ensures
-    ∙ ap (λ (x : Screen). answer_for x width.side-at2.result height.side-at.result) j.judge-rows.ensures)
-    ∙ rows_judged _ _ (first (line₁ (line₂ e))) (second (line₂ e)) (third e) (fourth d) (omega (arith, product d, j.before.if5.false))
+    ∙ ap (λ (x : Screen). answer_for x width.side_at-width.result height.side_at-height.result) j.judge_rows-found.ensures)
+    ∙ rows_judged _ _ (first (line₁ (line₂ e))) (second (line₂ e)) (third e) (fourth d) (omega (arith, product d, j.if-room-width.false))
     (width_is width)
-    height.side-at.ensures
+    height.side_at-height.ensures
     (cc (map_at_lem d.before.before.before))
 
-returns-5 : tie.Need-returns-5
+returns-5 : tie.Need-returns-then-begins_at
 returns-5 c =
     let m = c.before.before.before in
     let e = c.before.before.before.before.before in
     rw (map_at_lem m)
-    (refused_24 _ _ (first (line₁ (line₂ e))) (second (line₂ e)) (third e) (rw (map_at_lem m) at (sym c.before.begins-at2.ensures ∙ c.if4.false)))
+    (refused_24 _ _ (first (line₁ (line₂ e))) (second (line₂ e)) (third e) (rw (map_at_lem m) at (sym c.begins_at-then-begins_at.ensures ∙ c.if-begins_at-2.false)))
 
-returns-6 : tie.Need-returns-6
-returns-6 c = refused_21 _ _ (sym c.before.begins-at.ensures ∙ c.if1.false)
+returns-6 : tie.Need-returns
+returns-6 c = refused_21 _ _ (sym c.begins_at.ensures ∙ c.if-begins_at.false)
 
-pub judge-map-spec : {M : Type 1} → statement M
-judge-map-spec =
+pub judge_map_spec : {M : Type 1} → statement M
+judge_map_spec =
     tie.close
     (tie.spec
     slice-aggregate-begins-at

@@ -10,55 +10,55 @@ use Rattle.maptext.proofs.Storing.{HasMap, has_map, left_refused, rows_start, ce
 use Rattle.maptext.proofs.reader.read_map.Statement.{statement}
 use Rattle.maptext.proofs.reader.read_map.Tie as tie
 
-judge-map-requires : tie.Need-judge-map-requires
+judge-map-requires : tie.Need-judge_map-judged-requires
 judge-map-requires c κs = search rules
 
-enum-known-judged : tie.Need-enum-known-judged
+enum-known-judged : tie.Need-enum_known-judged
 enum-known-judged c = search rules
 
-enum_told : tie.Need-enum-told
+enum_told : tie.Need-enum_told-1
 enum_told c = search rules
 
-returns : tie.Need-returns
-returns c = left_refused _ _ _ _ c.enum_told.given.1 c.before.before.judge-map.ensures
+returns : tie.Need-returns-in_default
+returns c = left_refused _ _ _ _ c.in_default.is c.judge_map-judged.ensures
 
-abbrev start : tie.After-known-told → tie.Start
+abbrev start : tie.In-Map → tie.Start
 start c = c.before.before.before.before.before.before
 
-is_map : (c : tie.After-known-told) → HasMap (start c).args.text.now (length (start c).args.cells.now) c.before.judged.given.0.0
-is_map c = has_map _ _ _ c.before.judged.given.1 c.before.before.before.judge-map.ensures
+is_map : (c : tie.In-Map) → HasMap (start c).args.text.now (length (start c).args.cells.now) c.in-Map.f
+is_map c = has_map _ _ _ c.in-Map.is c.judge_map-judged.ensures
 
 -- the rows end the text
-ending : (c : tie.After-known-told) →
-    let f = c.before.judged.given.0.0 in
+ending : (c : tie.In-Map) →
+    let f = c.in-Map.f in
     rows_at (start c).args.text.now + f.height * suc f.width ≡ length (start c).args.text.now
 ending c = rows_start (is_map c)
 
-add-from : tie.Need-overflow-add-from
+add-from : tie.Need-overflow_add-from
 add-from c = omega (arith, width_small (is_map c))
 
-mul-from : tie.Need-overflow-mul-from
+mul-from : tie.Need-overflow_mul-from
 mul-from c = omega (arith, ending c)
 
-sub-from : tie.Need-overflow-sub-from
+sub-from : tie.Need-overflow_sub-from
 sub-from c = omega (arith, ending c)
 
-fill-rows-requires : tie.Need-fill-rows-requires
+fill-rows-requires : tie.Need-fill_rows-requires
 fill-rows-requires c κs =
     let t = c.before in
-    let f = t.before.judged.given.0.0 in
+    let f = t.in-Map.f in
     (omega (arith, ending t), omega (arith, mul_comm f.width f.height, cells_fit (is_map t)))
 
-same_length : tie.Need-same-length
+same_length : tie.Need-shape_of-cells
 same_length c = search rules
 
-returns-2 : tie.Need-returns-2
+returns-2 : tie.Need-returns
 returns-2 c =
     let r = c.before.before in
-    left_stored (is_map r.before.before) r.fill-rows.ensures
+    left_stored (is_map r.before.before) r.fill_rows.ensures
 
-pub read-map-spec : {M : Type 1} → statement M
-read-map-spec =
+pub read_map_spec : {M : Type 1} → statement M
+read_map_spec =
     tie.close
     (tie.spec
     judge-map-requires

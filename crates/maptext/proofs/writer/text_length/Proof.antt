@@ -12,52 +12,52 @@ use Rattle.maptext.proofs.writer.text_length.Tie as tie
 slice-aggregate-side-line-length : tie.Need-slice-aggregate-side-line-length
 slice-aggregate-side-line-length c = search rules
 
-side-line-length-requires : tie.Need-side-line-length-requires
+side-line-length-requires : tie.Need-side_line_length-requires
 side-line-length-requires c κs = search rules
 
-height_line : (c : tie.After-side-line-length) → c.side-line-length.result ≤ 12
+height_line : (c : tie.After-side_line_length) → c.side_line_length.result ≤ 12
 height_line c =
-    let s = c.before.before in
+    let s = c in
     omega (arith, short_line height_word s.args.height (omega arith) s.requires.2 s.requires.3)
 
-add-head : tie.Need-overflow-add-head
+add-head : tie.Need-overflow_add-head
 add-head c = omega (arith, height_line c)
 
 slice-aggregate-side-line-length-2 : tie.Need-slice-aggregate-side-line-length-2
 slice-aggregate-side-line-length-2 c = search rules
 
-side-line-length-requires-2 : tie.Need-side-line-length-requires-2
+side-line-length-requires-2 : tie.Need-side_line_length-requires-2
 side-line-length-requires-2 c κs = search rules
 
-width_line : (c : tie.After-side-line-length2) → c.side-line-length2.result ≤ 12
+width_line : (c : tie.After-side_line_length-2) → c.side_line_length-2.result ≤ 12
 width_line c =
-    let s = c.before.before.before.before in
+    let s = c in
     omega (arith, short_line width_word s.args.width (omega arith) s.requires.0 s.requires.1)
 
-add-head-2 : tie.Need-overflow-add-head-2
+add-head-2 : tie.Need-overflow_add-head-2
 add-head-2 c = omega (arith, height_line c.before.before, width_line c)
 
-add-head-3 : tie.Need-overflow-add-head-3
+add-head-3 : tie.Need-overflow_add-head-3
 add-head-3 c = omega (arith, height_line c.before.before, width_line c)
 
-add-result : tie.Need-overflow-add-result
+add-result : tie.Need-overflow_add-result
 add-result c = search rules
 
-mul-result : tie.Need-overflow-mul-result
-mul-result c = let s = c.before.before.before.before in omega (arith, mul-le-mul s.requires.3 s.requires.1)
+mul-result : tie.Need-overflow_mul-result
+mul-result c = let s = c in omega (arith, mul-le-mul s.requires.3 s.requires.1)
 
-add-result-2 : tie.Need-overflow-add-result-2
+add-result-2 : tie.Need-overflow_add-result-2
 add-result-2 c =
-    let s = c.before.before.before.before in
+    let s = c in
     omega (arith, height_line c.before.before, width_line c, mul-le-mul s.requires.3 s.requires.1)
 
 returns : tie.Need-returns
 returns c =
-    let s = c.before.before.before.before in
-    omega (arith, header_length s.args.width s.args.height, c.before.before.side-line-length.ensures, c.side-line-length2.ensures)
+    let s = c in
+    omega (arith, header_length s.args.width s.args.height, c.side_line_length.ensures, c.side_line_length-2.ensures)
 
-pub text-length-spec : {M : Type 1} → statement M
-text-length-spec =
+pub text_length_spec : {M : Type 1} → statement M
+text_length_spec =
     tie.close
     (tie.spec
     slice-aggregate-side-line-length

@@ -8,66 +8,66 @@ use Rattle.ranks.proofs.Looks.{below_none, below_counted}
 use Rattle.ranks.proofs.lists.count_below.Statement.{statement}
 use Rattle.ranks.proofs.lists.count_below.Tie as tie
 
-abbrev invariant_loop : tie.invariant_loop
+abbrev invariant_loop : tie.invariant-loop-i
 invariant_loop costs work from len bound n₀ i₀ n i = (i ≤ len) × (n ≤ i) × (n ≡ below_in costs work from i bound)
 
-abbrev decreases_loop : tie.decreases_loop
+abbrev decreases_loop : tie.decreases-loop-i
 decreases_loop costs work from len bound n₀ i₀ n i = len - i
 
-loop-holds : tie.Need-loop-init invariant_loop decreases_loop
+loop-holds : tie.Need-loop-i-init invariant_loop decreases_loop
 loop-holds c = (omega arith, omega arith, sym (below_none c.args.costs.now c.args.work.now c.args.from c.args.bound))
 
-add_at : tie.Need-overflow-add-at invariant_loop decreases_loop
-add_at c = omega (arith, c.before.before.requires)
+add_at : tie.Need-overflow_add-at invariant_loop decreases_loop
+add_at c = omega (arith, c.requires)
 
-mul-cell : tie.Need-overflow-mul-cell invariant_loop decreases_loop
-mul-cell c = omega (arith, c.before.before.requires)
+mul-cell : tie.Need-offset_bounds-work-at invariant_loop decreases_loop
+mul-cell c = omega (arith, c.requires)
 
-shared-slice-read-cell : tie.Need-shared-slice-read-cell invariant_loop decreases_loop
-shared-slice-read-cell c = omega (arith, c.before.before.before.requires)
+shared-slice-read-cell : tie.Need-bounds-work-at invariant_loop decreases_loop
+shared-slice-read-cell c = omega (arith, c.requires)
 
-cast-cell : tie.Need-overflow-cast-cell invariant_loop decreases_loop
+cast-cell : tie.Need-overflow_cast-cell invariant_loop decreases_loop
 cast-cell c =
-    let l = c.before.before in
-    omega (arith, c.shared-slice-known.given (l.before.args.from + l.loop.i))
+    let l = c in
+    omega (arith, c.shared_slice_known-1.given (l.args.from + l.loop-i.i))
 
-mul-if1 : tie.Need-overflow-mul-if1 invariant_loop decreases_loop
+mul-if1 : tie.Need-offset_bounds-costs-cell invariant_loop decreases_loop
 mul-if1 c =
-    let l = c.before.before in
-    omega (arith, c.shared-slice-known.given (l.before.args.from + l.loop.i))
+    let l = c in
+    omega (arith, c.shared_slice_known-1.given (l.args.from + l.loop-i.i))
 
-shared-slice-read-if1 : tie.Need-shared-slice-read-if1 invariant_loop decreases_loop
+shared-slice-read-if1 : tie.Need-bounds-costs-cell invariant_loop decreases_loop
 shared-slice-read-if1 c =
-    let l = c.before.before.before in
-    l.before.requires.cell l.loop.i c.before.before.loop-test.true
+    let l = c in
+    l.requires.cell l.loop-i.i c.loop-i-test.true
 
-add-n : tie.Need-overflow-add-n invariant_loop decreases_loop
-add-n c = omega (arith, c.before.before.before.before.before.requires)
+add-n : tie.Need-overflow_add-n invariant_loop decreases_loop
+add-n c = omega (arith, c.requires)
 
-add-i : tie.Need-overflow-add-i invariant_loop decreases_loop
-add-i c = omega (arith, c.before.before.before.before.before.requires)
+add-i : tie.Need-overflow_add-i invariant_loop decreases_loop
+add-i c = omega (arith, c.requires)
 
-loop-less : tie.Need-loop-smaller invariant_loop decreases_loop
+loop-less : tie.Need-loop-i-smaller invariant_loop decreases_loop
 loop-less c = omega arith
 
-loop-again : tie.Need-loop-preserved invariant_loop decreases_loop
+loop-again : tie.Need-loop-i-preserved invariant_loop decreases_loop
 loop-again c =
-    let l = c.before.before.before.before.loop in
-    let s = c.before.before.before.before.before in (
+    let l = c.loop-i in
+    let s = c in (
       omega arith,
-      ⊎_elim (λ w. omega arith) (λ w. omega arith) c.if1.branch,
-      below_counted s.args.costs.now s.args.work.now s.args.from s.args.bound l.i l.n c.if1.n (omega (arith, s.requires)) l.invariant.2
-          (⊎_elim (λ w. inl (w.0.taken, w.1)) (λ w. inr (w.0.left, w.1)) c.if1.branch),
+      ⊎_elim (λ w. omega arith) (λ w. omega arith) c.if-costs-cell.branch,
+      below_counted s.args.costs.now s.args.work.now s.args.from s.args.bound l.i l.n c.if-costs-cell.n (omega (arith, s.requires)) l.invariant.2
+          (⊎_elim (λ w. inl (w.0.taken, w.1)) (λ w. inr (w.0.left, w.1)) c.if-costs-cell.branch),
     )
 
 returns : tie.Need-returns invariant_loop decreases_loop
 returns c =
-    let l = c.before.loop in
-    let e : l.i ≡ c.before.before.args.len = omega arith in
+    let l = c.loop-i in
+    let e : l.i ≡ c.args.len = omega arith in
     rw e at l.invariant.2
 
-pub count-below-spec : {M : Type 1} → statement M
-count-below-spec =
+pub count_below_spec : {M : Type 1} → statement M
+count_below_spec =
     tie.close
     (tie.spec
     invariant_loop

@@ -6,49 +6,49 @@ use Rattle.ranks.specs.Listed.{key_below, CanFind}
 use Rattle.ranks.proofs.lists.find_key.Statement.{statement}
 use Rattle.ranks.proofs.lists.find_key.Tie as tie
 
-abbrev invariant_loop : tie.invariant_loop
+abbrev invariant_loop : tie.invariant-loop-b
 invariant_loop costs work from len low high place a₀ b₀ a b = (low ≤ a) × (b ≤ high) × CanFind costs work from len a b place
 
-abbrev decreases_loop : tie.decreases_loop
+abbrev decreases_loop : tie.decreases-loop-b
 decreases_loop costs work from len low high place a₀ b₀ a b = b - a
 
-loop-holds : tie.Need-loop-init invariant_loop decreases_loop
-loop-holds c = (omega arith, omega arith, c.before.before.requires.1)
+loop-holds : tie.Need-loop-b-init invariant_loop decreases_loop
+loop-holds c = (omega arith, omega arith, c.requires.1)
 
-sub-loop : tie.Need-overflow-sub-loop invariant_loop decreases_loop
-sub-loop c = omega (arith, c.loop.invariant.2.rises)
+sub-loop : tie.Need-overflow_sub-b invariant_loop decreases_loop
+sub-loop c = omega (arith, c.loop-b.invariant.2.rises)
 
-sub-middle : tie.Need-overflow-sub-middle invariant_loop decreases_loop
+sub-middle : tie.Need-overflow_sub-middle invariant_loop decreases_loop
 sub-middle c = omega arith
 
-add-middle : tie.Need-overflow-add-middle invariant_loop decreases_loop
-add-middle c = omega (arith, c.before.before.before.before.ranges.high)
+add-middle : tie.Need-overflow_add-middle invariant_loop decreases_loop
+add-middle c = omega (arith, c.ranges.high)
 
-count-before-requires : tie.Need-count-before-requires invariant_loop decreases_loop
-count-before-requires c κs = c.before.before.before.before.requires.0
+count-before-requires : tie.Need-count_before-requires invariant_loop decreases_loop
+count-before-requires c κs = c.requires.0
 
-loop-less : tie.Need-loop-smaller invariant_loop decreases_loop
+loop-less : tie.Need-loop-b-smaller-then-count_before-place invariant_loop decreases_loop
 loop-less c = omega arith
 
-loop-again : tie.Need-loop-preserved invariant_loop decreases_loop
+loop-again : tie.Need-loop-b-preserved-then-count_before-place invariant_loop decreases_loop
 loop-again c =
-    let z = c.before.before.before.loop.invariant in
-    (omega arith, z.1, record { rises = omega arith; before = omega (arith, c.before.count-before.ensures); after = z.2.after })
+    let z = c.loop-b.invariant in
+    (omega arith, z.1, record { rises = omega arith; before = omega (arith, c.count_before.ensures); after = z.2.after })
 
-loop-less-2 : tie.Need-loop-smaller-2 invariant_loop decreases_loop
+loop-less-2 : tie.Need-loop-b-smaller invariant_loop decreases_loop
 loop-less-2 c = omega arith
 
-loop-again-2 : tie.Need-loop-preserved-2 invariant_loop decreases_loop
+loop-again-2 : tie.Need-loop-b-preserved invariant_loop decreases_loop
 loop-again-2 c =
-    let z = c.before.before.before.loop.invariant in
-    (z.0, omega arith, record { rises = omega arith; before = z.2.before; after = omega (arith, c.before.count-before.ensures) })
+    let z = c.loop-b.invariant in
+    (z.0, omega arith, record { rises = omega arith; before = z.2.before; after = omega (arith, c.count_before.ensures) })
 
 returns : tie.Need-returns invariant_loop decreases_loop
 returns c =
-    let s = c.before.before.before.before in
-    let z = c.before.loop.invariant in
-    let k = c.before.loop.a in
-    let end : c.before.loop.b ≡ suc k = omega arith in
+    let s = c in
+    let z = c.loop-b.invariant in
+    let k = c.loop-b.a in
+    let end : c.loop-b.b ≡ suc k = omega arith in
     record {
       from_low = z.0;
       to_high = omega arith;
@@ -56,8 +56,8 @@ returns c =
       after = subst (λ (b : ℕ). s.args.place < key_below s.args.costs.now s.args.work.now s.args.from s.args.len b) end z.2.after;
     }
 
-pub find-key-spec : {M : Type 1} → statement M
-find-key-spec =
+pub find_key_spec : {M : Type 1} → statement M
+find_key_spec =
     tie.close
     (tie.spec
     invariant_loop

@@ -16,15 +16,15 @@ small_kind (Found s c l) = omega arith
 small_kind (None s) = omega arith
 small_kind (Stopped s c) = omega arith
 
-numbers-of-requires : tie.Need-numbers-of-requires
+numbers-of-requires : tie.Need-numbers_of-requires
 numbers-of-requires c κs = search rules
 
-record-for-requires : tie.Need-record-for-requires
-record-for-requires c κs = rw c.Numbers-of.ensures (record { kind = small_kind c.before.args.answer; refusal = c.before.requires })
+record-for-requires : tie.Need-record_for-requires
+record-for-requires c κs = rw c.Numbers-of.ensures (record { kind = small_kind c.args.answer; refusal = c.requires })
 
 returns : tie.Need-returns
 unfolding record_of
-returns c = c.record-for.ensures ∙ ap record_for c.before.Numbers-of.ensures
+returns c = c.record_for.ensures ∙ ap record_for c.Numbers-of.ensures
 
-pub record-of-spec : {M : Type 1} → statement M
-record-of-spec = tie.close (tie.spec numbers-of-requires record-for-requires returns)
+pub record_of_spec : {M : Type 1} → statement M
+record_of_spec = tie.close (tie.spec numbers-of-requires record-for-requires returns)

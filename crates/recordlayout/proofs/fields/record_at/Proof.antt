@@ -5,7 +5,7 @@ use Rattle.recordlayout.proofs.Copies.{record_copied}
 use Rattle.recordlayout.proofs.fields.record_at.Statement.{statement}
 use Rattle.recordlayout.proofs.fields.record_at.Tie as tie
 
-add-end : tie.Need-overflow-add-end
+add-end : tie.Need-overflow_add-end
 add-end c = search rules
 
 sub-copy : tie.Need-overflow-sub-copy
@@ -25,11 +25,11 @@ copy-requires c κs = search rules
 
 returns : tie.Need-returns
 returns c =
-    let s = c.before.before.before.before.before in
-    record_copied s.args.bytes.now _ s.args.at s.requires refl c.before.copy.ensures.1
+    let s = c in
+    record_copied s.args.bytes.now _ s.args.at s.requires refl c.copy.ensures.1
 
-pub record-at-spec : {M : Type 1} → statement M
-record-at-spec =
+pub record_at_spec : {M : Type 1} → statement M
+record_at_spec =
     tie.close
     (tie.spec
     add-end

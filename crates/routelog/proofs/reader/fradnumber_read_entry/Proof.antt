@@ -4,18 +4,18 @@ use Rattle.routelog.proofs.Calls.{read_called}
 use Rattle.routelog.proofs.reader.fradnumber_read_entry.Statement.{statement}
 use Rattle.routelog.proofs.reader.fradnumber_read_entry.Tie as tie
 
-read-entry-requires : tie.Need-read-entry-requires
+read-entry-requires : tie.Need-read_entry-read-requires
 read-entry-requires c κs = search rules
 
-entry-numbers-requires : tie.Need-entry-numbers-requires
+entry-numbers-requires : tie.Need-entry_numbers-requires
 entry-numbers-requires c κs = search rules
 
-same_length : tie.Need-same-length
+same_length : tie.Need-shape_of-route
 same_length c = search rules
 
 returns : tie.Need-returns
-returns c = read_called c.before.before.before.read-entry.ensures c.entry-numbers.ensures
+returns c = read_called c.read_entry-read.ensures c.entry_numbers.ensures
 
-pub fradnumber-read-entry-spec : {M : Type 1} → statement M
-fradnumber-read-entry-spec =
+pub fradnumber_read_entry_spec : {M : Type 1} → statement M
+fradnumber_read_entry_spec =
     tie.close (tie.spec read-entry-requires entry-numbers-requires same_length returns)

@@ -18,37 +18,37 @@ use Rattle.routelog.proofs.reader.take_entry.Tie as tie
 known : (c : tie.Start) → Passes c.args.rest.now (length c.args.route.now)
 known c = passes _ _ c.requires
 
-abbrev start : tie.After-numbers-in → tie.Start
+abbrev start : tie.After-numbers_in-numbers → tie.Start
 start c = c.before.before.before.before.before.before
 
 -- how many directions there are
-steps : (c : tie.After-numbers-in) → c.numbers-in.result.length ≡ steps_in (answer_at (start c).args.rest.now)
-steps c = ap (λ (n : AnswerNumbers). n.length) (c.numbers-in.ensures ∙ ap answer_in c.before.before.record-at2.ensures)
+steps : (c : tie.After-numbers_in-numbers) → c.numbers_in-numbers.result.length ≡ steps_in (answer_at (start c).args.rest.now)
+steps c = ap (λ (n : AnswerNumbers). n.length) (c.numbers_in-numbers.ensures ∙ ap answer_in c.record_at-answer.ensures)
 
-few : (c : tie.After-numbers-in) → c.numbers-in.result.length ≤ greatest_length
+few : (c : tie.After-numbers_in-numbers) → c.numbers_in-numbers.result.length ≤ greatest_length
 few c = omega (arith, steps c, steps-few _ (known (start c)).logged)
 
-within : (c : tie.After-numbers-in) → record_size + record_size + c.numbers-in.result.length ≤ length (start c).args.rest.now
+within : (c : tie.After-numbers_in-numbers) → record_size + record_size + c.numbers_in-numbers.result.length ≤ length (start c).args.rest.now
 within c =
     let k = known (start c) in
     omega (arith, steps c, size_holds (steps_in (answer_at (start c).args.rest.now)), k.route_long, k.head_long, length-drop (record_size + record_size) (start c).args.rest.now)
 
-record-at-requires : tie.Need-record-at-requires
+record-at-requires : tie.Need-record_at-question-requires
 record-at-requires c κs = omega (arith, known c.before.before)
 
-record-at-requires-2 : tie.Need-record-at-requires-2
+record-at-requires-2 : tie.Need-record_at-answer-requires
 record-at-requires-2 c κs = omega (arith, known c.before.before.before)
 
-slice-aggregate-numbers-in : tie.Need-slice-aggregate-numbers-in
+slice-aggregate-numbers-in : tie.Need-slice_bounds-numbers_in-end
 slice-aggregate-numbers-in c = search rules
 
-numbers-in-requires : tie.Need-numbers-in-requires
+numbers-in-requires : tie.Need-numbers_in-numbers-requires
 numbers-in-requires c κs = search rules
 
-add-route-at : tie.Need-overflow-add-route-at
+add-route-at : tie.Need-overflow_add-route_at
 add-route-at c = search rules
 
-add-end : tie.Need-overflow-add-end
+add-end : tie.Need-overflow_add-end
 add-end c = omega (arith, few c)
 
 sub-copy : tie.Need-overflow-sub-copy
@@ -63,25 +63,25 @@ part-copy-end c = omega (arith, within c)
 copy-requires : tie.Need-copy-requires
 copy-requires c κs =
     let k = known c.before.before.before.before.before.before.before.before in
-    let count : record_size + record_size + c.before.before.numbers-in.result.length - (record_size + record_size) ≡ steps_in (answer_at c.before.before.before.before.before.before.before.before.args.rest.now) = omega (arith, steps c.before.before) in
+    let count : record_size + record_size + c.numbers_in-numbers.result.length - (record_size + record_size) ≡ steps_in (answer_at c.args.rest.now) = omega (arith, steps c.before.before) in
     rw count (omega (arith, steps_there k, k.room_long))
 
-route-size-requires : tie.Need-route-size-requires
+route-size-requires : tie.Need-route_size-requires
 route-size-requires c κs = few c.before.before.before.before.before
 
 add-t14 : tie.Need-overflow-add-t14
-add-t14 c = omega (arith, few c.before.before.before.before.before.before, size_holds c.before.before.before.before.before.before.numbers-in.result.length, c.route-size.ensures)
+add-t14 c = omega (arith, few c.before.before.before.before.before.before, size_holds c.numbers_in-numbers.result.length, c.route_size.ensures)
 
-same_length : tie.Need-same-length
+same_length : tie.Need-shape_of-route
 same_length c = search rules
 
 returns : tie.Need-returns
 returns c =
     let s = c.before.before.before.before.before.before.before.before.before.before.before.before in
-    taken (known s) c.before.before.before.before.before.before.before.before.before.record-at.ensures c.before.before.before.before.before.before.before.before.record-at2.ensures (steps c.before.before.before.before.before.before) c.route-size.ensures c.before.before.before.copy.ensures.1
+    taken (known s) c.record_at-question.ensures c.record_at-answer.ensures (steps c.before.before.before.before.before.before) c.route_size.ensures c.copy.ensures.1
 
-pub take-entry-spec : {M : Type 1} → statement M
-take-entry-spec =
+pub take_entry_spec : {M : Type 1} → statement M
+take_entry_spec =
     tie.close
     (tie.spec
     record-at-requires

@@ -9,35 +9,35 @@ use Rattle.routelog.proofs.Writing.{answer_wrong, count_wrong, direction_wrong, 
 use Rattle.routelog.proofs.writer.judge_parts.Statement.{statement}
 use Rattle.routelog.proofs.writer.judge_parts.Tie as tie
 
-logged : (c : tie.Then1) → can_be_logged c.before.before.before.before.args.answer.now ≡ true
-logged c = sym c.before.can-be-logged.ensures ∙ c.if1.true
+logged : (c : tie.Then-can_be_logged) → can_be_logged c.args.answer.now ≡ true
+logged c = sym c.can_be_logged.ensures ∙ c.if-can_be_logged.true
 
-steps : (c : tie.After-numbers-in) → c.numbers-in.result.length ≡ steps_in c.before.before.before.before.before.args.answer.now
-steps c = ap (λ (n : AnswerNumbers). n.length) c.numbers-in.ensures
+steps : (c : tie.After-numbers_in-numbers) → c.numbers_in-numbers.result.length ≡ steps_in c.args.answer.now
+steps c = ap (λ (n : AnswerNumbers). n.length) c.numbers_in-numbers.ensures
 
-can-be-logged-requires : tie.Need-can-be-logged-requires
+can-be-logged-requires : tie.Need-can_be_logged-requires
 can-be-logged-requires c κs = search rules
 
-numbers-in-requires : tie.Need-numbers-in-requires
+numbers-in-requires : tie.Need-numbers_in-numbers-requires
 numbers-in-requires c κs = search rules
 
-all-within-requires : tie.Need-all-within-requires
+all-within-requires : tie.Need-all_within-requires
 all-within-requires c κs = search rules
 
-returns : tie.Need-returns
-returns c = sym (parts_pass _ c.before.before.before.before.before.before.before.before.args.directions.now (logged c.before.before.before.before) (omega (arith, steps c.before.before.before, c.before.before.if2.true)) (sym c.before.all-within.ensures ∙ c.if3.true))
+returns : tie.Need-returns-then-all_within
+returns c = sym (parts_pass _ c.args.directions.now (logged c.before.before.before.before) (omega (arith, steps c.before.before.before, c.if-directions-length.true)) (sym c.all_within.ensures ∙ c.if-all_within.true))
 
-returns-2 : tie.Need-returns-2
-returns-2 c = sym (direction_wrong _ c.before.before.before.before.before.before.before.before.args.directions.now (logged c.before.before.before.before) (omega (arith, steps c.before.before.before, c.before.before.if2.true)) (sym c.before.all-within.ensures ∙ c.if3.false))
+returns-2 : tie.Need-returns-else-all_within
+returns-2 c = sym (direction_wrong _ c.args.directions.now (logged c.before.before.before.before) (omega (arith, steps c.before.before.before, c.if-directions-length.true)) (sym c.all_within.ensures ∙ c.if-all_within.false))
 
-returns-3 : tie.Need-returns-3
-returns-3 c = sym (count_wrong _ c.before.before.before.before.before.before.args.directions.now (logged c.before.before) (λ e. omega (arith, steps c.before, c.if2.false)))
+returns-3 : tie.Need-returns-else-directions-length
+returns-3 c = sym (count_wrong _ c.args.directions.now (logged c.before.before) (λ e. omega (arith, steps c.before, c.if-directions-length.false)))
 
-returns-4 : tie.Need-returns-4
-returns-4 c = sym (answer_wrong _ c.before.before.before.before.args.directions.now (sym c.before.can-be-logged.ensures ∙ c.if1.false))
+returns-4 : tie.Need-returns
+returns-4 c = sym (answer_wrong _ c.args.directions.now (sym c.can_be_logged.ensures ∙ c.if-can_be_logged.false))
 
-pub judge-parts-spec : {M : Type 1} → statement M
-judge-parts-spec =
+pub judge_parts_spec : {M : Type 1} → statement M
+judge_parts_spec =
     tie.close
     (tie.spec
     can-be-logged-requires

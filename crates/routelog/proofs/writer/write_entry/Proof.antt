@@ -14,65 +14,65 @@ use Rattle.routelog.proofs.Writing.{PartsPass, parts_known, directions_few, writ
 use Rattle.routelog.proofs.writer.write_entry.Statement.{statement}
 use Rattle.routelog.proofs.writer.write_entry.Tie as tie
 
-abbrev start : tie.After-enum-told → tie.Start
+abbrev start : tie.In-Passed → tie.Start
 start c = c.before.before.before.before.before.before
 
-passed : (c : tie.After-enum-told) → screen (part_lines (start c).args.t2 (start c).args.directions.now) ≡ Passed
-passed c = sym c.before.before.judge-parts.ensures ∙ c.enum_told.given.1
+passed : (c : tie.In-Passed) → screen (part_lines (start c).args.t2 (start c).args.directions.now) ≡ Passed
+passed c = sym c.judge_parts-judged.ensures ∙ c.in-Passed.is
 
-known : (c : tie.After-enum-told) → PartsPass (start c).args.t2 (start c).args.directions.now
+known : (c : tie.In-Passed) → PartsPass (start c).args.t2 (start c).args.directions.now
 known c = parts_known _ _ (passed c)
 
 -- what was added up is the entry's length
-size : (c : tie.After-route-size) →
+size : (c : tie.After-route_size) →
     let s = (start c.before).args in
-    length (entry_bytes (entry_of s.t1 s.t2 s.directions.now)) ≡ record_size + record_size + c.route-size.result
-size c = let s = (start c.before).args in omega (arith, entry_length (entry_of s.t1 s.t2 s.directions.now), c.route-size.ensures)
+    length (entry_bytes (entry_of s.t1 s.t2 s.directions.now)) ≡ record_size + record_size + c.route_size.result
+size c = let s = (start c.before).args in omega (arith, entry_length (entry_of s.t1 s.t2 s.directions.now), c.route_size.ensures)
 
-slice-aggregate-judge-parts : tie.Need-slice-aggregate-judge-parts
+slice-aggregate-judge-parts : tie.Need-slice_bounds-judge_parts-end
 slice-aggregate-judge-parts c = search rules
 
-judge-parts-requires : tie.Need-judge-parts-requires
+judge-parts-requires : tie.Need-judge_parts-judged-requires
 judge-parts-requires c κs = search rules
 
-enum-known-judged : tie.Need-enum-known-judged
+enum-known-judged : tie.Need-enum_known-judged
 enum-known-judged c = search rules
 
-enum_told : tie.Need-enum-told
+enum_told : tie.Need-enum_told-1
 enum_told c = search rules
 
-add-size : tie.Need-overflow-add-size
+add-size : tie.Need-overflow_add-size
 add-size c = search rules
 
-route-size-requires : tie.Need-route-size-requires
+route-size-requires : tie.Need-route_size-requires
 route-size-requires c κs = directions_few (known c)
 
-add-size-2 : tie.Need-overflow-add-size-2
-add-size-2 c = omega (arith, directions_few (known c.before), size_holds (length c.before.before.before.before.before.before.before.args.directions.now), c.route-size.ensures)
+add-size-2 : tie.Need-overflow_add-size-in-Passed
+add-size-2 c = omega (arith, directions_few (known c.before), size_holds (length c.args.directions.now), c.route_size.ensures)
 
-returns : tie.Need-returns
+returns : tie.Need-returns-then-room-size
 returns c = written_short _ _ (passed c.before.before) (omega (arith, size c.before))
 
-slice-aggregate-put-entry : tie.Need-slice-aggregate-put-entry
+slice-aggregate-put-entry : tie.Need-slice_bounds-put_entry-end
 slice-aggregate-put-entry c = search rules
 
-slice-aggregate-put-entry-2 : tie.Need-slice-aggregate-put-entry-2
+slice-aggregate-put-entry-2 : tie.Need-slice_bounds-put_entry-end-in-Passed
 slice-aggregate-put-entry-2 c = search rules
 
-put-entry-requires : tie.Need-put-entry-requires
+put-entry-requires : tie.Need-put_entry-end-requires
 put-entry-requires c κs = (directions_few (known c.before.before.before.before.before), omega (arith, size c.before.before.before.before))
 
-returns-2 : tie.Need-returns-2
-returns-2 c = written_refused _ _ (sym c.before.before.before.judge-parts.ensures ∙ c.before.judged.given.1)
+returns-2 : tie.Need-returns-in-Refused
+returns-2 c = written_refused _ _ (sym c.judge_parts-judged.ensures ∙ c.in-Refused.is)
 
-same_length : tie.Need-same-length
+same_length : tie.Need-shape_of-room
 same_length c = search rules
 
-returns-3 : tie.Need-returns-3
-returns-3 c = written_whole _ _ (passed c.before.before.before.before.before.before.before.before) (omega (arith, size c.before.before.before.before.before.before.before, c.before.before.before.before.before.before.if1.false)) c.before.before.put-entry.ensures
+returns-3 : tie.Need-returns-else-room-size
+returns-3 c = written_whole _ _ (passed c.before.before.before.before.before.before.before.before) (omega (arith, size c.before.before.before.before.before.before.before, c.if-room-size.false)) c.put_entry-end.ensures
 
-pub write-entry-spec : {M : Type 1} → statement M
-write-entry-spec =
+pub write_entry_spec : {M : Type 1} → statement M
+write_entry_spec =
     tie.close
     (tie.spec
     slice-aggregate-judge-parts

@@ -12,46 +12,46 @@ use Rattle.search.specs.Search.{limit_line, limited_lines}
 use Rattle.search.proofs.rooms.screen_search.Statement.{statement}
 use Rattle.search.proofs.rooms.screen_search.Tie as tie
 
-screen-lengths-requires : tie.Need-screen-lengths-requires
+screen-lengths-requires : tie.Need-screen_lengths-lengths-requires
 screen-lengths-requires c κs = search rules
 
-enum-known-lengths : tie.Need-enum-known-lengths
+enum-known-lengths : tie.Need-enum_known-lengths
 enum-known-lengths c = search rules
 
-enum_told : tie.Need-enum-told
+enum_told : tie.Need-enum_told-1
 enum_told c = search rules
 
 -- only the limit's line is left
-left : (c : tie.After-enum-told) →
-    let s = c.before.before.before.before in
+left : (c : tie.In-Passed) →
+    let s = c in
     screen (limited_lines s.args.f s.args.map.now (question s.args.start s.args.goal s.args.limit) s.args.costs s.args.work s.args.route)
     ≡ screen (limit_line s.args.limit ∷ [])
 left c =
-    let s = c.before.before.before.before in
+    let s = c in
     screen_after (length_lines s.args.f s.args.map.now s.args.start s.args.goal s.args.costs s.args.work s.args.route)
-    (limit_line s.args.limit ∷ []) _ _ c.before.before.screen-lengths.ensures c.enum_told.given.1
+    (limit_line s.args.limit ∷ []) _ _ c.screen_lengths-lengths.ensures c.in-Passed.is
 
-returns : tie.Need-returns
+returns : tie.Need-returns-then-limit-eq0
 returns c =
-    let s = c.before.before.before.before.before in
+    let s = c in
     rw (left c.before, eq-eqb s.args.limit 0 (omega arith))
 
-returns-2 : tie.Need-returns-2
+returns-2 : tie.Need-returns-in-Refused
 returns-2 c =
-    let t = c.before in
-    let s = t.before.before.before.before in
+    let t = c in
+    let s = t in
     rw (screen_after
     (length_lines s.args.f s.args.map.now s.args.start s.args.goal s.args.costs s.args.work s.args.route)
-    (limit_line s.args.limit ∷ []) _ _ t.before.before.screen-lengths.ensures t.lengths.given.1)
+    (limit_line s.args.limit ∷ []) _ _ t.screen_lengths-lengths.ensures t.in-Refused.is)
 
-returns-3 : tie.Need-returns-3
+returns-3 : tie.Need-returns-else-limit-eq0
 returns-3 c =
     let t = c.before in
-    let s = t.before.before.before.before in
+    let s = t in
     rw (left t, ne_eqb s.args.limit 0 (λ e. omega arith))
 
-pub screen-search-spec : {M : Type 1} → statement M
-screen-search-spec =
+pub screen_search_spec : {M : Type 1} → statement M
+screen_search_spec =
     tie.close
     (tie.spec
     screen-lengths-requires

@@ -21,46 +21,46 @@ asked s = question s.args.start s.args.goal s.args.limit
 abbrev lent : tie.Start → Rooms
 lent s = rooms s.args.costs.now s.args.work.now s.args.route.now
 
-abbrev start : tie.After-enum-told → tie.Start
+abbrev start : tie.In-Passed → tie.Start
 start c = c.before.before.before.before.before.before.before
 
-passed : (c : tie.After-enum-told) → screen (search_lines (start c).args.f (start c).args.map.now (asked (start c)) (lent (start c))) ≡ Passed
-passed c = sym c.before.before.screen-search.ensures ∙ c.enum_told.given.1
+passed : (c : tie.In-Passed) → screen (search_lines (start c).args.f (start c).args.map.now (asked (start c)) (lent (start c))) ≡ Passed
+passed c = sym c.screen_search-screen.ensures ∙ c.in-Passed.is
 
-covers : (c : tie.After-enum-told) → length (start c).args.map.now ≡ cells (start c).args.f
+covers : (c : tie.In-Passed) → length (start c).args.map.now ≡ cells (start c).args.f
 covers c =
     let s = start c in
     question_covers s.args.f s.args.map.now s.args.start s.args.goal (search_question s.args.f s.args.map.now (asked s) (lent s) (passed c))
 
-screen-search-requires : tie.Need-screen-search-requires
+screen-search-requires : tie.Need-screen_search-screen-requires
 screen-search-requires c κs = search rules
 
-enum-known-screen : tie.Need-enum-known-screen
+enum-known-screen : tie.Need-enum_known-screen
 enum-known-screen c = search rules
 
-enum_told : tie.Need-enum-told
+enum_told : tie.Need-enum_told-1
 enum_told c = search rules
 
-mul-places : tie.Need-overflow-mul-places
+mul-places : tie.Need-overflow_mul-places
 mul-places c = search rules
 
-slice-relend-prefix-search-rooms : tie.Need-slice-relend-prefix-search-rooms
+slice-relend-prefix-search-rooms : tie.Need-slice_bounds-search_rooms-end
 slice-relend-prefix-search-rooms c =
     let s = start c in
     omega (arith, covers c, long_costs s.args.f s.args.map.now (asked s) (lent s) (passed c))
 
-slice-aggregate-search-rooms : tie.Need-slice-aggregate-search-rooms
+slice-aggregate-search-rooms : tie.Need-slice_bounds-search_rooms-end-in-Passed
 slice-aggregate-search-rooms c = sym (length-take-le _ _ (slice-relend-prefix-search-rooms c.before))
 
-slice-relend-prefix-search-rooms-2 : tie.Need-slice-relend-prefix-search-rooms-2
+slice-relend-prefix-search-rooms-2 : tie.Need-slice_bounds-search_rooms-end-in-Passed-2
 slice-relend-prefix-search-rooms-2 c =
     let s = start c.before in
     omega (arith, covers c.before, long_work s.args.f s.args.map.now (asked s) (lent s) (passed c.before))
 
-slice-aggregate-search-rooms-2 : tie.Need-slice-aggregate-search-rooms-2
+slice-aggregate-search-rooms-2 : tie.Need-slice_bounds-search_rooms-end-in-Passed-3
 slice-aggregate-search-rooms-2 c = sym (length-take-le _ _ (slice-relend-prefix-search-rooms-2 c.before))
 
-search-rooms-requires : tie.Need-search-rooms-requires
+search-rooms-requires : tie.Need-search_rooms-requires
 search-rooms-requires c κs =
     let d = c.before.before in
     let t = d.before in
@@ -76,30 +76,30 @@ search-rooms-requires c κs =
       ),
     )
 
-returns : tie.Need-returns
+returns : tie.Need-returns-in-Refused
 returns c =
     let t = c.before in
     let s = t.before.before.before.before.before.before.before in
-    searched_refused s.args.f s.args.map.now (asked s) (lent s) _ _ (sym t.before.before.screen-search.ensures ∙ t.screen.given.1)
+    searched_refused s.args.f s.args.map.now (asked s) (lent s) _ _ (sym t.screen_search-screen.ensures ∙ t.in-Refused.is)
 
-same_length : tie.Need-same-length
+same_length : tie.Need-shape_of-costs
 same_length c = search rules
 
-same-length-2 : tie.Need-same-length-2
+same-length-2 : tie.Need-shape_of-work
 same-length-2 c = search rules
 
-same-length-3 : tie.Need-same-length-3
+same-length-3 : tie.Need-shape_of-route
 same-length-3 c = search rules
 
-returns-2 : tie.Need-returns-2
+returns-2 : tie.Need-returns-in-Passed
 returns-2 c =
     let k = c.before.before.before.before.before.before in
     let t = k.before.before.before.before in
     let s = start t in
-    searched_passed s.args.f s.args.map.now (asked s) (lent s) (passed t) _ (covers t) k.search-rooms.ensures.0 k.search-rooms.ensures.1
+    searched_passed s.args.f s.args.map.now (asked s) (lent s) (passed t) _ (covers t) k.search_rooms.ensures.0 k.search_rooms.ensures.1
 
-pub search-spec : {M : Type 1} → statement M
-search-spec =
+pub search_spec : {M : Type 1} → statement M
+search_spec =
     tie.close
     (tie.spec
     screen-search-requires

@@ -6,33 +6,33 @@ use lib.ListN.{replicate}
 use Rattle.search.proofs.rooms.search_rooms.Statement.{statement}
 use Rattle.search.proofs.rooms.search_rooms.Tie as tie
 
-settle-requires : tie.Need-settle-requires
+settle-requires : tie.Need-settle-band-requires
 settle-requires c κs = search rules
 
-finish-requires : tie.Need-finish-requires
+finish-requires : tie.Need-finish-answer-requires
 finish-requires c κs = search rules
 
 fill-requires : tie.Need-fill-requires
 fill-requires c κs = search rules
 
-same_length : tie.Need-same-length
+same_length : tie.Need-shape_of-costs
 same_length c = search rules
 
-same-length-2 : tie.Need-same-length-2
+same-length-2 : tie.Need-shape_of-work
 same-length-2 c = search rules
 
-same-length-3 : tie.Need-same-length-3
+same-length-3 : tie.Need-shape_of-route
 same-length-3 c = search rules
 
 returns : tie.Need-returns
 returns c =
-    let e = c.before.before in
-    let d = e.before.before.before.before.before.before in
-    let b = d.before.before.before.before.before.before.before.before in
-    (d.finish.ensures, e.fill.ensures ∙ ap (λ (n : ℕ). replicate n 0) b.settle.ensures.between.room)
+    let e = c in
+    let d = e in
+    let b = d in
+    (d.finish-answer.ensures, e.fill.ensures ∙ ap (λ (n : ℕ). replicate n 0) b.settle-band.ensures.between.room)
 
-pub search-rooms-spec : {M : Type 1} → statement M
-search-rooms-spec =
+pub search_rooms_spec : {M : Type 1} → statement M
+search_rooms_spec =
     tie.close
     (tie.spec
     settle-requires

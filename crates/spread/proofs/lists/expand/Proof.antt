@@ -7,41 +7,41 @@ use borrow.Author.Rules.{rules}
 use Rattle.spread.proofs.lists.expand.Statement.{statement}
 use Rattle.spread.proofs.lists.expand.Tie as tie
 
-take-off-requires : tie.Need-take-off-requires
-take-off-requires c κs = let s = c.before.before.before.before in can_take_off s.requires.here _ s.requires.before
+take-off-requires : tie.Need-take_off-cell-requires
+take-off-requires c κs = let s = c in can_take_off s.requires.here _ s.requires.before
 
-sub-take-steps : tie.Need-overflow-sub-take-steps
+sub-take-steps : tie.Need-overflow_sub-len
 sub-take-steps c = search rules
 
 -- the cell is taken off, in any search at hand
-begun : (c : tie.After-take-off) (z : ℕ) →
-    let a = c.before.before.before.before.before.args in
+begun : (c : tie.After-take_off-cell) (z : ℕ) →
+    let a = c.args in
     Listing a.f a.map.now z a.costs.now a.work.now a.len
-    → Taking a.f a.map.now z c.take-off.result 0 a.costs.now c.take-off.new.1.0 (a.len - 1)
+    → Taking a.f a.map.now z c.take_off-cell.result 0 a.costs.now c.take_off-cell.new.1.0 (a.len - 1)
 begun c z x =
-    let s = c.before.before.before.before.before in
-    rw (c.take-off.ensures.0, c.take-off.ensures.1) (takes_off x s.args.at s.requires.before)
+    let s = c in
+    rw (c.take_off-cell.ensures.0, c.take_off-cell.ensures.1) (takes_off x s.args.at s.requires.before)
 
-take-steps-requires : tie.Need-take-steps-requires
+take-steps-requires : tie.Need-take_steps-requires
 take-steps-requires c κs =
     let k = c.before.before.before.before in
-    record { s = _; here = begun k _ k.before.before.before.before.before.requires.here }
+    record { s = _; here = begun k _ k.requires.here }
 
-same_length : tie.Need-same-length
+same_length : tie.Need-shape_of-costs
 same_length c = search rules
 
-same-length-2 : tie.Need-same-length-2
+same-length-2 : tie.Need-shape_of-work
 same-length-2 c = search rules
 
 returns : tie.Need-returns
 returns c =
     let a = c.before.before.before.before in
     let k = a.before.before.before.before.before in
-    let s = k.before.before.before.before.before in
+    let s = k in
     ((λ z x. taking_done (a.take_steps.ensures.0 z (begun k z x))), omega (arith, a.take_steps.ensures.1, s.requires.before))
 
-pub expand-spec : {M : Type 1} → statement M
-expand-spec =
+pub expand_spec : {M : Type 1} → statement M
+expand_spec =
     tie.close
     (tie.spec
     take-off-requires

@@ -7,73 +7,73 @@ use Rattle.spread.specs.Listing.{no_less, falls, joins}
 use Rattle.spread.proofs.lists.offer.Statement.{statement}
 use Rattle.spread.proofs.lists.offer.Tie as tie
 
-add-flag : tie.Need-overflow-add-flag
+add-flag : tie.Need-overflow_add-flag
 add-flag c = search rules
 
-mul-old : tie.Need-overflow-mul-old
+mul-old : tie.Need-offset_bounds-costs-to
 mul-old c = search rules
 
-slice-read-old : tie.Need-slice-read-old
+slice-read-old : tie.Need-bounds-costs-to
 slice-read-old c = search rules
 
-cast-old : tie.Need-overflow-cast-old
-cast-old c = omega (arith, c.slice-known.given c.before.args.to)
+cast-old : tie.Need-overflow_cast-old
+cast-old c = omega (arith, c.slice_known-1.given c.args.to)
 
-returns : tie.Need-returns
-returns c = no_less (omega (arith, c.if1.true))
+returns : tie.Need-returns-then-old-sum
+returns c = no_less (omega (arith, c.if-old-sum.true))
 
-cast-costs : tie.Need-overflow-cast-costs
-cast-costs c = omega (arith, c.before.slice-known.given c.before.before.args.to)
+cast-costs : tie.Need-overflow_cast-costs
+cast-costs c = omega (arith, c.slice_known-1.given c.args.to)
 
-mul-costs : tie.Need-overflow-mul-costs
+mul-costs : tie.Need-offset_bounds-costs-to-2
 mul-costs c = search rules
 
-slice-write-costs : tie.Need-slice-write-costs
+slice-write-costs : tie.Need-bounds-costs-to-2
 slice-write-costs c = search rules
 
-mul-if2 : tie.Need-overflow-mul-if2
+mul-if2 : tie.Need-offset_bounds-work-flag
 mul-if2 c = search rules
 
-slice-read-if2 : tie.Need-slice-read-if2
+slice-read-if2 : tie.Need-bounds-work-flag
 slice-read-if2 c = search rules
 
-same_length : tie.Need-same-length
+same_length : tie.Need-shape_of-costs-then-work-flag-eq1
 same_length c = search rules
 
-returns-2 : tie.Need-returns-2
-returns-2 c = falls (omega (arith, c.before.before.if1.false)) (omega (arith, c.if2.true))
+returns-2 : tie.Need-returns-then-work-flag-eq1
+returns-2 c = falls (omega (arith, c.if-old-sum.false)) (omega (arith, c.if-work-flag-eq1.true))
 
-mul-work : tie.Need-overflow-mul-work
+mul-work : tie.Need-offset_bounds-work-flag-2
 mul-work c = search rules
 
-slice-write-work : tie.Need-slice-write-work
+slice-write-work : tie.Need-bounds-work-flag-2
 slice-write-work c = search rules
 
-cast-work : tie.Need-overflow-cast-work
+cast-work : tie.Need-overflow_cast-work
 cast-work c = search rules
 
-mul-work-2 : tie.Need-overflow-mul-work-2
+mul-work-2 : tie.Need-offset_bounds-work-len
 mul-work-2 c = search rules
 
-slice-write-work-2 : tie.Need-slice-write-work-2
+slice-write-work-2 : tie.Need-bounds-work-len
 slice-write-work-2 c =
-    let s = c.before.before.before.before in
+    let s = c in
     omega (arith, s.requires.room, s.requires.double, length-set s.args.work.now (length s.args.costs.now + s.args.to) 1)
 
-add-result : tie.Need-overflow-add-result
+add-result : tie.Need-overflow_add-result
 add-result c = search rules
 
-same-length-2 : tie.Need-same-length-2
+same-length-2 : tie.Need-shape_of-costs
 same-length-2 c = search rules
 
-same-length-3 : tie.Need-same-length-3
+same-length-3 : tie.Need-shape_of-work
 same-length-3 c = search rules
 
-returns-3 : tie.Need-returns-3
-returns-3 c = joins (omega (arith, c.before.before.if1.false)) c.if2.false
+returns-3 : tie.Need-returns
+returns-3 c = joins (omega (arith, c.if-old-sum.false)) c.if-work-flag-eq1.false
 
-pub offer-spec : {M : Type 1} → statement M
-offer-spec =
+pub offer_spec : {M : Type 1} → statement M
+offer_spec =
     tie.close
     (tie.spec
     add-flag

@@ -4,11 +4,11 @@ use Rattle.paths.specs.Graph.{MARK}
 use Rattle.spread.proofs.passes.is_over.Statement.{statement}
 use Rattle.spread.proofs.passes.is_over.Tie as tie
 
-returns : tie.Need-returns
-returns c = rw (eq-eqb c.before.args.cost MARK c.if1.true)
+returns : tie.Need-returns-then-cost-eq-MARK
+returns c = rw (eq-eqb c.args.cost MARK c.if-cost-eq-MARK.true)
 
-returns-2 : tie.Need-returns-2
-returns-2 c = rw (ne_eqb c.before.args.cost MARK c.if1.false)
+returns-2 : tie.Need-returns
+returns-2 c = rw (ne_eqb c.args.cost MARK c.if-cost-eq-MARK.false)
 
-pub is-over-spec : {M : Type 1} → statement M
-is-over-spec = tie.close (tie.spec returns returns-2)
+pub is_over_spec : {M : Type 1} → statement M
+is_over_spec = tie.close (tie.spec returns returns-2)

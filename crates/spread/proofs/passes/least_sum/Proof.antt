@@ -8,63 +8,63 @@ use Rattle.spread.specs.Listing.{greatest_sum, IsLeastSum}
 use Rattle.spread.proofs.passes.least_sum.Statement.{statement}
 use Rattle.spread.proofs.passes.least_sum.Tie as tie
 
-abbrev invariant_loop : tie.invariant_loop
+abbrev invariant_loop : tie.invariant-loop-i
 invariant_loop aim costs work len head least₀ i₀ least i = (1 ≤ i) × (i ≤ len) × IsLeastSum aim costs work i least × (least ≤ greatest_sum)
 
-abbrev decreases_loop : tie.decreases_loop
+abbrev decreases_loop : tie.decreases-loop-i
 decreases_loop aim costs work len head least₀ i₀ least i = len - i
 
-shared-slice-read-head : tie.Need-shared-slice-read-head invariant_loop decreases_loop
-shared-slice-read-head c = omega (arith, c.before.before.before.requires)
+shared-slice-read-head : tie.Need-bounds-work-0 invariant_loop decreases_loop
+shared-slice-read-head c = omega (arith, c.requires)
 
-cast-head : tie.Need-overflow-cast-head invariant_loop decreases_loop
-cast-head c = omega (arith, c.shared-slice-known3.given 0)
+cast-head : tie.Need-overflow_cast-head invariant_loop decreases_loop
+cast-head c = omega (arith, c.shared_slice_known-3-1.given 0)
 
-sum-of-requires : tie.Need-sum-of-requires invariant_loop decreases_loop
-sum-of-requires c κs = let p = c.before.before.before.requires in (p.1.aims, p.1.cell 0 p.0, p.1.small)
+sum-of-requires : tie.Need-sum_of-least-requires invariant_loop decreases_loop
+sum-of-requires c κs = let p = c.requires in (p.1.aims, p.1.cell 0 p.0, p.1.small)
 
-loop-holds : tie.Need-loop-init invariant_loop decreases_loop
-loop-holds c = (omega arith, omega (arith, c.before.before.before.before.requires), rw c.sum_of.ensures.0 (least_first _), c.sum_of.ensures.1)
+loop-holds : tie.Need-loop-i-init invariant_loop decreases_loop
+loop-holds c = (omega arith, omega (arith, c.requires), rw c.sum_of-least.ensures.0 (least_first _), c.sum_of-least.ensures.1)
 
-mul-cell : tie.Need-overflow-mul-cell invariant_loop decreases_loop
-mul-cell c = omega (arith, c.before.before.before.before.before.before.requires)
+mul-cell : tie.Need-offset_bounds-work-i invariant_loop decreases_loop
+mul-cell c = omega (arith, c.requires)
 
-shared-slice-read-cell : tie.Need-shared-slice-read-cell invariant_loop decreases_loop
-shared-slice-read-cell c = omega (arith, c.before.before.before.before.before.before.before.requires)
+shared-slice-read-cell : tie.Need-bounds-work-i invariant_loop decreases_loop
+shared-slice-read-cell c = omega (arith, c.requires)
 
-cast-cell : tie.Need-overflow-cast-cell invariant_loop decreases_loop
-cast-cell c = omega (arith, c.shared-slice-known4.given c.before.before.loop.i)
+cast-cell : tie.Need-overflow_cast-cell invariant_loop decreases_loop
+cast-cell c = omega (arith, c.shared_slice_known-in-loop-i-1.given c.loop-i.i)
 
-sum-of-requires-2 : tie.Need-sum-of-requires-2 invariant_loop decreases_loop
+sum-of-requires-2 : tie.Need-sum_of-sum-requires invariant_loop decreases_loop
 sum-of-requires-2 c κs =
-    let p = c.before.before.before.before.before.before.before.requires in
-    (p.1.aims, p.1.cell c.before.before.loop.i c.before.loop-test.true, p.1.small)
+    let p = c.requires in
+    (p.1.aims, p.1.cell c.loop-i.i c.loop-i-test.true, p.1.small)
 
-add-i : tie.Need-overflow-add-i invariant_loop decreases_loop
-add-i c = omega (arith, c.before.before.before.before.before.before.before.before.before.requires)
+add-i : tie.Need-overflow_add-i invariant_loop decreases_loop
+add-i c = omega (arith, c.requires)
 
-loop-less : tie.Need-loop-smaller invariant_loop decreases_loop
+loop-less : tie.Need-loop-i-smaller invariant_loop decreases_loop
 loop-less c = omega arith
 
-loop-again : tie.Need-loop-preserved invariant_loop decreases_loop
+loop-again : tie.Need-loop-i-preserved invariant_loop decreases_loop
 loop-again c =
-    let l = c.before.before.before.before.loop in
-    let q = c.before.sum-of2.ensures.0 in (
+    let l = c.loop-i in
+    let q = c.sum_of-sum.ensures.0 in (
       omega arith,
       omega arith,
-      least_more _ l.i l.least c.if1.least l.invariant.2
-          (⊎_elim (λ w. inl (omega (arith, w.0.taken, q), w.1 ∙ q)) (λ w. inr (omega (arith, w.0.left, q), w.1)) c.if1.branch),
-      ⊎_elim (λ w. omega (arith, w.1, c.before.sum-of2.ensures.1)) (λ w. omega (arith, w.1, l.invariant.3)) c.if1.branch,
+      least_more _ l.i l.least c.if-sum-least.least l.invariant.2
+          (⊎_elim (λ w. inl (omega (arith, w.0.taken, q), w.1 ∙ q)) (λ w. inr (omega (arith, w.0.left, q), w.1)) c.if-sum-least.branch),
+      ⊎_elim (λ w. omega (arith, w.1, c.sum_of-sum.ensures.1)) (λ w. omega (arith, w.1, l.invariant.3)) c.if-sum-least.branch,
     )
 
 returns : tie.Need-returns invariant_loop decreases_loop
 returns c =
-    let l = c.before.loop in
-    let e : l.i ≡ c.before.before.before.before.before.before.args.len = omega arith in
+    let l = c.loop-i in
+    let e : l.i ≡ c.args.len = omega arith in
     (rw e at l.invariant.2, l.invariant.3)
 
-pub least-sum-spec : {M : Type 1} → statement M
-least-sum-spec =
+pub least_sum_spec : {M : Type 1} → statement M
+least_sum_spec =
     tie.close
     (tie.spec
     invariant_loop

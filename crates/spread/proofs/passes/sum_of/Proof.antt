@@ -5,26 +5,26 @@ use borrow.Author.Rules.{rules}
 use Rattle.spread.proofs.passes.sum_of.Statement.{statement}
 use Rattle.spread.proofs.passes.sum_of.Tie as tie
 
-estimate-requires : tie.Need-estimate-requires
+estimate-requires : tie.Need-estimate-estimate-requires
 estimate-requires c κs = search rules
 
-mul-result : tie.Need-overflow-mul-result
+mul-result : tie.Need-offset_bounds-costs-cell
 mul-result c = search rules
 
-shared-slice-read-result : tie.Need-shared-slice-read-result
+shared-slice-read-result : tie.Need-bounds-costs-cell
 shared-slice-read-result c = search rules
 
-cast-result : tie.Need-overflow-cast-result
-cast-result c = omega (arith, c.shared-slice-known2.given c.before.before.before.args.cell)
+cast-result : tie.Need-overflow_cast-result
+cast-result c = omega (arith, c.shared_slice_known-2-1.given c.args.cell)
 
-add-result : tie.Need-overflow-add-result
-add-result c = omega (arith, c.shared-slice-known2.given c.before.before.before.args.cell, c.before.estimate.ensures.1)
+add-result : tie.Need-overflow_add-result
+add-result c = omega (arith, c.shared_slice_known-2-1.given c.args.cell, c.estimate-estimate.ensures.1)
 
 returns : tie.Need-returns
 unfolding sum_at
-returns c = (rw c.before.estimate.ensures.0, omega (arith, c.shared-slice-known2.given c.before.before.before.args.cell, c.before.estimate.ensures.1))
+returns c = (rw c.estimate-estimate.ensures.0, omega (arith, c.shared_slice_known-2-1.given c.args.cell, c.estimate-estimate.ensures.1))
 
-pub sum-of-spec : {M : Type 1} → statement M
-sum-of-spec =
+pub sum_of_spec : {M : Type 1} → statement M
+sum_of_spec =
     tie.close
     (tie.spec estimate-requires mul-result shared-slice-read-result cast-result add-result returns)

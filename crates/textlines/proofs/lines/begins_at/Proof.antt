@@ -4,7 +4,7 @@ use borrow.Author.Rules.{part_to_end}
 use Rattle.textlines.proofs.lines.begins_at.Statement.{statement}
 use Rattle.textlines.proofs.lines.begins_at.Tie as tie
 
-sub-begins : tie.Need-overflow-sub-begins
+sub-begins : tie.Need-slice_bounds-begins-count
 sub-begins c = search rules
 
 part-begins-start : tie.Need-slice-bounds-begins-start
@@ -19,6 +19,6 @@ begins-requires c κs = search rules
 returns : tie.Need-returns
 returns c = rw part_to_end at c.begins.ensures
 
-pub begins-at-spec : {M : Type 1} → statement M
-begins-at-spec =
+pub begins_at_spec : {M : Type 1} → statement M
+begins_at_spec =
     tie.close (tie.spec sub-begins part-begins-start part-begins-end begins-requires returns)

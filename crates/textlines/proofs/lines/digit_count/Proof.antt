@@ -17,21 +17,21 @@ four n h =
       | no a ↦ rw (le-ltb (n / 10 / 10 / 10) 10 (omega arith))
     ])
 
-returns : tie.Need-returns
-returns c = (rw (lt-ltb _ _ c.if1.true), omega arith)
+returns : tie.Need-returns-then-n-lt10
+returns c = (rw (lt-ltb _ _ c.if-n-lt10.true), omega arith)
 
-returns-2 : tie.Need-returns-2
+returns-2 : tie.Need-returns-then-n-lt100
 returns-2 c =
-    let n = c.before.before.args.n in
-    (rw (le-ltb n 10 c.before.if1.false, lt-ltb (n / 10) 10 (omega arith)), omega arith)
+    let n = c.args.n in
+    (rw (le-ltb n 10 c.if-n-lt10.false, lt-ltb (n / 10) 10 (omega arith)), omega arith)
 
-returns-3 : tie.Need-returns-3
+returns-3 : tie.Need-returns-then-n-lt1000
 returns-3 c =
-    let n = c.before.before.before.args.n in
+    let n = c.args.n in
     (rw (le-ltb n 10 (omega arith), le-ltb (n / 10) 10 (omega arith), lt-ltb (n / 10 / 10) 10 (omega arith)), omega arith)
 
-returns-4 : tie.Need-returns-4
-returns-4 c = (four c.before.before.before.args.n c.if3.false, omega arith)
+returns-4 : tie.Need-returns
+returns-4 c = (four c.args.n c.if-n-lt1000.false, omega arith)
 
-pub digit-count-spec : {M : Type 1} → statement M
-digit-count-spec = tie.close (tie.spec returns returns-2 returns-3 returns-4)
+pub digit_count_spec : {M : Type 1} → statement M
+digit_count_spec = tie.close (tie.spec returns returns-2 returns-3 returns-4)

@@ -11,18 +11,18 @@ use Rattle.textlines.proofs.Decimals.{short_line}
 use Rattle.textlines.proofs.lines.has_side_line.Statement.{statement}
 use Rattle.textlines.proofs.lines.has_side_line.Tie as tie
 
-slice-aggregate-put-side-line : tie.Need-slice-aggregate-put-side-line
+slice-aggregate-put-side-line : tie.Need-slice_bounds-put_side_line-end
 slice-aggregate-put-side-line c = search rules
 
 fits : (s : tie.Start) → length (side_line s.args.word.now s.args.n) ≤ 12
 fits s = short_line s.args.word.now s.args.n s.requires.0 s.requires.1 s.requires.2
 
-put-side-line-requires : tie.Need-put-side-line-requires
+put-side-line-requires : tie.Need-put_side_line-end-requires
 put-side-line-requires c κs =
     let s = c.before.before.before in
     (s.requires.1, s.requires.2, omega (arith, fits s))
 
-sub-line : tie.Need-overflow-sub-line
+sub-line : tie.Need-slice_bounds-line-count
 sub-line c = search rules
 
 part-line-start : tie.Need-slice-bounds-line-start
@@ -30,7 +30,7 @@ part-line-start c = search rules
 
 part-line-end : tie.Need-slice-bounds-line-end
 part-line-end c =
-    omega (arith, fits c.before.before.before.before.before.before, c.before.before.put-side-line.ensures.next, c.before.before.put-side-line.auto)
+    omega (arith, fits c.before.before.before.before.before.before, c.put_side_line-end.ensures.next, c.put_side_line-end.auto)
 
 begins-requires : tie.Need-begins-requires
 begins-requires c κs = search rules
@@ -39,10 +39,10 @@ returns : tie.Need-returns
 returns c =
     let p = c.before.before.before.before in
     let s = p.before.before.before.before in
-    c.begins.ensures ∙ ap (λ (line : List ℕ). begins line s.args.text.now) (put_first p.put-side-line.ensures (fits s))
+    c.begins.ensures ∙ ap (λ (line : List ℕ). begins line s.args.text.now) (put_first p.put_side_line-end.ensures (fits s))
 
-pub has-side-line-spec : {M : Type 1} → statement M
-has-side-line-spec =
+pub has_side_line_spec : {M : Type 1} → statement M
+has_side_line_spec =
     tie.close
     (tie.spec
     slice-aggregate-put-side-line

@@ -7,38 +7,38 @@ use Rattle.putting.proofs.Puts.{put_both}
 use Rattle.textlines.proofs.lines.put_side_line.Statement.{statement}
 use Rattle.textlines.proofs.lines.put_side_line.Tie as tie
 
-put-requires : tie.Need-put-requires
+put-requires : tie.Need-put-digits-requires
 unfolding side_line
-put-requires c κs = omega (arith, simp length-append at c.before.before.before.requires.2)
+put-requires c κs = omega (arith, simp length-append at c.requires.2)
 
-put-digits-requires : tie.Need-put-digits-requires
+put-digits-requires : tie.Need-put_digits-end-requires
 unfolding side_line
 put-digits-requires c κs =
-    let s = c.before.before.before.before.before.before.before in
+    let s = c in
     (s.requires.0, s.requires.1, omega (arith, simp length-append at s.requires.2))
 
 slice-aggregate-put : tie.Need-slice-aggregate-put
 slice-aggregate-put c = search rules
 
-put-requires-2 : tie.Need-put-requires-2
+put-requires-2 : tie.Need-put-requires
 unfolding side_line
 put-requires-2 c κs =
-    let s = c.before.before.before.before.before.before.before.before.before.before.before.before in
+    let s = c in
     omega (arith, simp length-append at s.requires.2)
 
-same_length : tie.Need-same-length
+same_length : tie.Need-shape_of-room
 same_length c = search rules
 
 returns : tie.Need-returns
 unfolding side_line
 returns c =
-    let e = c.before.before in
-    let d = e.before.before.before.before.before in
-    let w = d.before.before.before.before in
-    put_both (put_both w.put.ensures d.put-digits.ensures) e.put2.ensures
+    let e = c in
+    let d = e in
+    let w = d in
+    put_both (put_both w.put-digits.ensures d.put_digits-end.ensures) e.put.ensures
 
-pub put-side-line-spec : {M : Type 1} → statement M
-put-side-line-spec =
+pub put_side_line_spec : {M : Type 1} → statement M
+put_side_line_spec =
     tie.close
     (tie.spec
     put-requires

@@ -9,67 +9,67 @@ use Rattle.textlines.proofs.Sides.{run_on, run_stops, run_ends}
 use Rattle.textlines.proofs.lines.run_value.Statement.{statement}
 use Rattle.textlines.proofs.lines.run_value.Tie as tie
 
-abbrev invariant_loop : tie.invariant_loop
+abbrev invariant_loop : tie.invariant-loop-at
 invariant_loop text from n₀ at₀ n at = (n < 10000) × (run_value 0 (drop from text) ≡ run_value n (drop at text))
 
-abbrev decreases_loop : tie.decreases_loop
+abbrev decreases_loop : tie.decreases-loop-at
 decreases_loop text from n₀ at₀ n at = length text - at
 
-loop-holds : tie.Need-loop-init invariant_loop decreases_loop
+loop-holds : tie.Need-loop-at-init invariant_loop decreases_loop
 loop-holds c = (omega arith, refl)
 
-shared-slice-read-b : tie.Need-shared-slice-read-b invariant_loop decreases_loop
+shared-slice-read-b : tie.Need-bounds-text-at invariant_loop decreases_loop
 shared-slice-read-b c = omega arith
 
-returns : tie.Need-returns invariant_loop decreases_loop
+returns : tie.Need-returns-then-n-ge1000 invariant_loop decreases_loop
 returns c =
-    let l = c.before.before.before in
-    let text = l.before.before.args.text.now in
-    sym (l.loop.invariant.1 ∙ run_stops l.loop.n text l.loop.at (omega arith) (rw (le-ltb l.loop.n 1000 (omega arith))))
+    let l = c in
+    let text = l.args.text.now in
+    sym (l.loop-at.invariant.1 ∙ run_stops l.loop-at.n text l.loop-at.at (omega arith) (rw (le-ltb l.loop-at.n 1000 (omega arith))))
 
-returns-2 : tie.Need-returns-2 invariant_loop decreases_loop
+returns-2 : tie.Need-returns-then-b-lt48 invariant_loop decreases_loop
 returns-2 c =
-    let l = c.before.before.before.before in
-    let text = l.before.before.args.text.now in
-    sym (l.loop.invariant.1 ∙ run_stops l.loop.n text l.loop.at (omega arith) (rw (lt-ltb l.loop.n 1000 (omega arith), lt-leb _ _ c.if2.true)))
+    let l = c in
+    let text = l.args.text.now in
+    sym (l.loop-at.invariant.1 ∙ run_stops l.loop-at.n text l.loop-at.at (omega arith) (rw (lt-ltb l.loop-at.n 1000 (omega arith), lt-leb _ _ c.if-b-lt48.true)))
 
-returns-3 : tie.Need-returns-3 invariant_loop decreases_loop
+returns-3 : tie.Need-returns-then-b-gt57 invariant_loop decreases_loop
 returns-3 c =
-    let l = c.before.before.before.before.before in
-    let text = l.before.before.args.text.now in
+    let l = c in
+    let text = l.args.text.now in
     sym
-    (l.loop.invariant.1
-    ∙ run_stops l.loop.n text l.loop.at (omega arith)
-    (rw (lt-ltb l.loop.n 1000 (omega arith), le-leb _ _ c.before.if2.false, lt-leb _ _ c.if3.true)))
+    (l.loop-at.invariant.1
+    ∙ run_stops l.loop-at.n text l.loop-at.at (omega arith)
+    (rw (lt-ltb l.loop-at.n 1000 (omega arith), le-leb _ _ c.if-b-lt48.false, lt-leb _ _ c.if-b-gt57.true)))
 
-mul-n : tie.Need-overflow-mul-n invariant_loop decreases_loop
+mul-n : tie.Need-overflow_mul-n invariant_loop decreases_loop
 mul-n c = omega arith
 
 widened-requires : tie.Need-widened-requires invariant_loop decreases_loop
 widened-requires c κs = tt
 
-add-n : tie.Need-overflow-add-n invariant_loop decreases_loop
+add-n : tie.Need-overflow_add-n invariant_loop decreases_loop
 add-n c = omega arith
 
-add_at : tie.Need-overflow-add-at invariant_loop decreases_loop
+add_at : tie.Need-overflow_add-at invariant_loop decreases_loop
 add_at c = omega arith
 
-loop-less : tie.Need-loop-smaller invariant_loop decreases_loop
+loop-less : tie.Need-loop-at-smaller invariant_loop decreases_loop
 loop-less c = omega arith
 
-loop-again : tie.Need-loop-preserved invariant_loop decreases_loop
+loop-again : tie.Need-loop-at-preserved invariant_loop decreases_loop
 loop-again c =
-    let l = c.before.before.before.before.before.before in
-    let text = l.before.before.args.text.now in
-    (omega arith, l.loop.invariant.1 ∙ rw c.widened.ensures (run_on l.loop.n text l.loop.at (omega arith) (omega arith) (omega arith) (omega arith)))
+    let l = c in
+    let text = l.args.text.now in
+    (omega arith, l.loop-at.invariant.1 ∙ rw c.widened.ensures (run_on l.loop-at.n text l.loop-at.at (omega arith) (omega arith) (omega arith) (omega arith)))
 
-returns-4 : tie.Need-returns-4 invariant_loop decreases_loop
+returns-4 : tie.Need-returns invariant_loop decreases_loop
 returns-4 c =
-    let l = c.before in
-    sym (l.loop.invariant.1 ∙ run_ends l.loop.n l.before.before.args.text.now l.loop.at c.loop-test.false)
+    let l = c in
+    sym (l.loop-at.invariant.1 ∙ run_ends l.loop-at.n l.args.text.now l.loop-at.at c.loop-at-test.false)
 
-pub run-value-spec : {M : Type 1} → statement M
-run-value-spec =
+pub run_value_spec : {M : Type 1} → statement M
+run_value_spec =
     tie.close
     (tie.spec
     invariant_loop

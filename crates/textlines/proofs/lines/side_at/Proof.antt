@@ -4,7 +4,7 @@ use borrow.Author.Rules.{part_to_end}
 use Rattle.textlines.proofs.lines.side_at.Statement.{statement}
 use Rattle.textlines.proofs.lines.side_at.Tie as tie
 
-sub-side-in : tie.Need-overflow-sub-side-in
+sub-side-in : tie.Need-slice_bounds-side_in-count
 sub-side-in c = search rules
 
 part-side-in-start : tie.Need-slice-bounds-side-in-start
@@ -13,12 +13,12 @@ part-side-in-start c = search rules
 part-side-in-end : tie.Need-slice-bounds-side-in-end
 part-side-in-end c = search rules
 
-side-in-requires : tie.Need-side-in-requires
+side-in-requires : tie.Need-side_in-requires
 side-in-requires c κs = search rules
 
 returns : tie.Need-returns
-returns c = rw part_to_end at c.side-in.ensures
+returns c = rw part_to_end at c.side_in.ensures
 
-pub side-at-spec : {M : Type 1} → statement M
-side-at-spec =
+pub side_at_spec : {M : Type 1} → statement M
+side_at_spec =
     tie.close (tie.spec sub-side-in part-side-in-start part-side-in-end side-in-requires returns)

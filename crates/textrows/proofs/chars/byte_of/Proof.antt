@@ -4,28 +4,28 @@ use borrow.Author.Rules.{rules}
 use Rattle.textrows.proofs.chars.byte_of.Statement.{statement}
 use Rattle.textrows.proofs.chars.byte_of.Tie as tie
 
-cell-of-requires : tie.Need-cell-of-requires
+cell-of-requires : tie.Need-cell_of-cell-requires
 cell-of-requires c κs = search rules
 
-enum-known-cell : tie.Need-enum-known-cell
+enum-known-cell : tie.Need-enum_known-cell
 enum-known-cell c = search rules
 
-enum_told : tie.Need-enum-told
+enum_told : tie.Need-enum_told-1
 enum_told c = search rules
 
-enum-told-2 : tie.Need-enum-told-2
+enum-told-2 : tie.Need-enum_told-in-NoCell
 enum-told-2 c = search rules
 
-returns : tie.Need-returns
-returns c = rw (sym c.before.before.before.cell-of.ensures ∙ c.before.cell.given.1)
+returns : tie.Need-returns-in-Weight
+returns c = rw (sym c.cell_of-cell.ensures ∙ c.in-Weight.is)
 
-returns-2 : tie.Need-returns-2
-returns-2 c = rw (sym c.before.before.cell-of.ensures ∙ c.enum_told.given.1)
+returns-2 : tie.Need-returns-in-Blocked
+returns-2 c = rw (sym c.cell_of-cell.ensures ∙ c.in-Blocked.is)
 
-returns-3 : tie.Need-returns-3
-returns-3 c = rw (sym c.before.before.cell-of.ensures ∙ c.enum-told2.given.1)
+returns-3 : tie.Need-returns-in-NoCell
+returns-3 c = rw (sym c.cell_of-cell.ensures ∙ c.in-NoCell.is)
 
-pub byte-of-spec : {M : Type 1} → statement M
-byte-of-spec =
+pub byte_of_spec : {M : Type 1} → statement M
+byte_of_spec =
     tie.close
     (tie.spec cell-of-requires enum-known-cell enum_told enum-told-2 returns returns-2 returns-3)

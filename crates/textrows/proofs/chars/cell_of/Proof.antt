@@ -6,39 +6,39 @@ use Rattle.textrows.specs.Chars.{cell_of}
 use Rattle.textrows.proofs.chars.cell_of.Statement.{statement}
 use Rattle.textrows.proofs.chars.cell_of.Tie as tie
 
-sub-t4 : tie.Need-overflow-sub-t4
+sub-t4 : tie.Need-overflow_sub-result
 sub-t4 c = omega arith
 
-returns : tie.Need-returns
+returns : tie.Need-returns-in-46
 unfolding cell_of
-returns c = ⊎_elim (λ e. rw e) (λ e. rw e) c.match.keys1
+returns c = ⊎_elim (λ e. rw e) (λ e. rw e) c.in_default-1.keys1
 
-returns-2 : tie.Need-returns-2
+returns-2 : tie.Need-returns-in-64
 unfolding cell_of
-returns-2 c = ⊎_elim (λ e. rw e) (⊎_elim (λ e. rw e) (λ e. rw e)) c.match.keys2
+returns-2 c = ⊎_elim (λ e. rw e) (⊎_elim (λ e. rw e) (λ e. rw e)) c.in_default-1.keys2
 
-returns-3 : tie.Need-returns-3
+returns-3 : tie.Need-returns-in-49-to-57
 unfolding cell_of
 returns-3 c =
-    let b = c.before.before.before.args.b in
-    rw (ne_eqb b 46 (λ e. omega arith), ne_eqb b 71 (λ e. omega arith), lt-ltb 48 b (omega arith), lt-ltb b 58 c.if2.true)
+    let b = c.args.b in
+    rw (ne_eqb b 46 (λ e. omega arith), ne_eqb b 71 (λ e. omega arith), lt-ltb 48 b (omega arith), lt-ltb b 58 c.if-b-lt58.true)
 
-returns-4 : tie.Need-returns-4
+returns-4 : tie.Need-returns-in_default
 unfolding cell_of
 returns-4 c =
-    let b = c.before.before.args.b in
-    let open-byte = c.before.match.rest.0.1 in
+    let b = c.args.b in
+    let open-byte = c.in_default-1.rest.0.1 in
     rw (ne_eqb b 46 (λ e. open-byte (inl e)), ne_eqb b 71 (λ e. omega arith), le-ltb 48 b (omega arith))
     (rw (ne_eqb b 64 (λ e. omega arith), ne_eqb b 79 (λ e. omega arith), ne_eqb b 84 (λ e. omega arith)))
 
-returns-5 : tie.Need-returns-5
+returns-5 : tie.Need-returns-in_default-2
 unfolding cell_of
 returns-5 c =
-    let b = c.before.before.before.args.b in
-    let open-byte = c.before.before.match.rest.0.1 in
-    let blocked = c.before.before.match.rest.1 in
-    rw (ne_eqb b 46 (λ e. omega arith), ne_eqb b 71 (λ e. open-byte (inr e)), lt-ltb 48 b (omega arith), le-ltb b 58 c.if2.false)
+    let b = c.args.b in
+    let open-byte = c.in_default-1.rest.0.1 in
+    let blocked = c.in_default-1.rest.1 in
+    rw (ne_eqb b 46 (λ e. omega arith), ne_eqb b 71 (λ e. open-byte (inr e)), lt-ltb 48 b (omega arith), le-ltb b 58 c.if-b-lt58.false)
     (rw (ne_eqb b 64 (λ e. blocked (inl e)), ne_eqb b 79 (λ e. blocked (inr (inl e))), ne_eqb b 84 (λ e. blocked (inr (inr e)))))
 
-pub cell-of-spec : {M : Type 1} → statement M
-cell-of-spec = tie.close (tie.spec sub-t4 returns returns-2 returns-3 returns-4 returns-5)
+pub cell_of_spec : {M : Type 1} → statement M
+cell_of_spec = tie.close (tie.spec sub-t4 returns returns-2 returns-3 returns-4 returns-5)

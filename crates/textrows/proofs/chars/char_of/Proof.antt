@@ -12,17 +12,17 @@ digit zero h = absurd (omega arith)
 digit (suc zero) h = absurd (omega arith)
 digit (suc (suc n)) h = omega arith
 
-add-result : tie.Need-overflow-add-result
+add-result : tie.Need-overflow_add-result
 add-result c = search rules
 
-returns : tie.Need-returns
+returns : tie.Need-returns-in-0
 returns c = search rules
 
-returns-2 : tie.Need-returns-2
+returns-2 : tie.Need-returns-in-1
 returns-2 c = search rules
 
-returns-3 : tie.Need-returns-3
-returns-3 c = digit c.before.args.weight (omega (arith, c.match.rest))
+returns-3 : tie.Need-returns-in_default
+returns-3 c = digit c.args.weight (omega (arith, c.in_default.rest))
 
-pub char-of-spec : {M : Type 1} → statement M
-char-of-spec = tie.close (tie.spec add-result returns returns-2 returns-3)
+pub char_of_spec : {M : Type 1} → statement M
+char_of_spec = tie.close (tie.spec add-result returns returns-2 returns-3)

@@ -7,7 +7,7 @@ use Rattle.textrows.proofs.Filling.{mapped_length}
 use Rattle.textrows.proofs.rows.put_row.Statement.{statement}
 use Rattle.textrows.proofs.rows.put_row.Tie as tie
 
-put-cells-requires : tie.Need-put-cells-requires
+put-cells-requires : tie.Need-put_cells-end-requires
 put-cells-requires c κs = search rules
 
 slice-aggregate-put : tie.Need-slice-aggregate-put
@@ -15,17 +15,17 @@ slice-aggregate-put c = search rules
 
 put-requires : tie.Need-put-requires
 put-requires c κs =
-    let s = c.before.before.before.before.before.before.before.before in
+    let s = c in
     omega (arith, mapped_length char_of s.args.width s.args.cells.now s.requires.1)
 
-same_length : tie.Need-same-length
+same_length : tie.Need-shape_of-room
 same_length c = search rules
 
 returns : tie.Need-returns
 returns c =
-    let e = c.before.before in
-    put_both e.before.before.before.before.before.put-cells.ensures e.put.ensures
+    let e = c in
+    put_both e.put_cells-end.ensures e.put.ensures
 
-pub put-row-spec : {M : Type 1} → statement M
-put-row-spec =
+pub put_row_spec : {M : Type 1} → statement M
+put_row_spec =
     tie.close (tie.spec put-cells-requires slice-aggregate-put put-requires same_length returns)

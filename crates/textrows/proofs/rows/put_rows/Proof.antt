@@ -8,16 +8,16 @@ use Rattle.textrows.proofs.Filling.{PuttingRows, row_in_map, text_row_in_room, p
 use Rattle.textrows.proofs.rows.put_rows.Statement.{statement}
 use Rattle.textrows.proofs.rows.put_rows.Tie as tie
 
-abbrev invariant_loop : tie.invariant_loop
+abbrev invariant_loop : tie.invariant-loop-left
 invariant_loop width height map room₀ at left₀ from₀ next₀ room left from next = PuttingRows width height map room₀ at left from next room
 
-abbrev decreases_loop : tie.decreases_loop
+abbrev decreases_loop : tie.decreases-loop-left
 decreases_loop width height map room₀ at left₀ from₀ next₀ room left from next = left
 
-loop-holds : tie.Need-loop-init invariant_loop decreases_loop
+loop-holds : tie.Need-loop-left-init invariant_loop decreases_loop
 loop-holds c = record { in_map = omega arith; in_room = omega arith; same = refl; rest = λ r room'' p. p }
 
-sub-put-row : tie.Need-overflow-sub-put-row invariant_loop decreases_loop
+sub-put-row : tie.Need-slice_bounds-put_row-count invariant_loop decreases_loop
 sub-put-row c = omega arith
 
 part-put-row-start : tie.Need-slice-bounds-put-row-start invariant_loop decreases_loop
@@ -26,44 +26,44 @@ part-put-row-start c = omega arith
 part-put-row-end : tie.Need-slice-bounds-put-row-end invariant_loop decreases_loop
 part-put-row-end c = omega arith
 
-put-row-requires : tie.Need-put-row-requires invariant_loop decreases_loop
+put-row-requires : tie.Need-put_row-next-requires invariant_loop decreases_loop
 put-row-requires c κs =
-    let l = c.before.before.before in
-    let s = l.before.before.before in
+    let l = c in
+    let s = l in
     let map = s.args.map.now in
-    let inside = row_in_map l.loop.invariant (omega arith) in
-    rw (part_to_end map l.loop.from)
-    (λ v. rw (get_or-drop l.loop.from map v 0) (s.requires.0 _), omega (arith, length-drop l.loop.from map), text_row_in_room l.loop.invariant (omega arith))
+    let inside = row_in_map l.loop-left.invariant (omega arith) in
+    rw (part_to_end map l.loop-left.from)
+    (λ v. rw (get_or-drop l.loop-left.from map v 0) (s.requires.0 _), omega (arith, length-drop l.loop-left.from map), text_row_in_room l.loop-left.invariant (omega arith))
 
-abbrev at_loop : tie.After-slice-known2 invariant_loop decreases_loop → tie.At-loop invariant_loop decreases_loop
+abbrev at_loop : tie.After-slice_known-in-loop-left-1 invariant_loop decreases_loop → tie.At-loop-left invariant_loop decreases_loop
 at_loop c = c.before.before.before.before.before.before
 
-add-from : tie.Need-overflow-add-from invariant_loop decreases_loop
-add-from c = omega (arith, row_in_map (at_loop c).loop.invariant (omega arith))
+add-from : tie.Need-overflow_add-from invariant_loop decreases_loop
+add-from c = omega (arith, row_in_map (at_loop c).loop-left.invariant (omega arith))
 
-sub-left : tie.Need-overflow-sub-left invariant_loop decreases_loop
+sub-left : tie.Need-overflow_sub-left invariant_loop decreases_loop
 sub-left c = omega arith
 
-loop-less : tie.Need-loop-smaller invariant_loop decreases_loop
+loop-less : tie.Need-loop-left-smaller invariant_loop decreases_loop
 loop-less c = omega arith
 
-loop-again : tie.Need-loop-preserved invariant_loop decreases_loop
+loop-again : tie.Need-loop-left-preserved invariant_loop decreases_loop
 loop-again c =
     let l = at_loop c in
     let map = l.before.before.before.args.map.now in
-    putting_next_row l.loop.inv (omega arith) (rw (part_to_end map l.loop.from) at c.before.before.put-row.ensures)
+    putting_next_row l.loop.inv (omega arith) (rw (part_to_end map l.loop.from) at c.put_row-next.ensures)
 
-same_length : tie.Need-same-length invariant_loop decreases_loop
-same_length c = c.before.loop.invariant.same
+same_length : tie.Need-shape_of-room invariant_loop decreases_loop
+same_length c = c.loop-left.invariant.same
 
 returns : tie.Need-returns invariant_loop decreases_loop
 returns c =
-    let l = c.before.loop in
+    let l = c.loop-left in
     let none_left : l.left ≡ 0 = omega arith in
     l.invariant.rest l.next l.room (rw none_left (record { next = omega arith; leaves = refl }))
 
-pub put-rows-spec : {M : Type 1} → statement M
-put-rows-spec =
+pub put_rows_spec : {M : Type 1} → statement M
+put_rows_spec =
     tie.close
     (tie.spec
     invariant_loop

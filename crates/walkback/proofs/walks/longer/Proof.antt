@@ -5,20 +5,20 @@ use Rattle.floor.proofs.Lengths.{step_straight, step_diagonal}
 use Rattle.walkback.proofs.walks.longer.Statement.{statement}
 use Rattle.walkback.proofs.walks.longer.Tie as tie
 
-add-steps : tie.Need-overflow-add-steps
+add-steps : tie.Need-overflow_add-steps
 add-steps c = search rules
 
-add-t7 : tie.Need-overflow-add-t7
+add-t7 : tie.Need-overflow_add-result
 add-t7 c = search rules
 
-returns : tie.Need-returns
-returns c = rw (step_straight _ _ c.before.if1.true, add-zero)
+returns : tie.Need-returns-then-direction-eq0
+returns c = rw (step_straight _ _ c.if-direction-eq0.true, add-zero)
 
-add-t8 : tie.Need-overflow-add-t8
+add-t8 : tie.Need-overflow_add-result-2
 add-t8 c = search rules
 
-returns-2 : tie.Need-returns-2
-returns-2 c = rw (step_diagonal _ _ c.before.if1.false, add-zero)
+returns-2 : tie.Need-returns
+returns-2 c = rw (step_diagonal _ _ c.if-direction-eq0.false, add-zero)
 
-pub longer-spec : {M : Type 1} → statement M
-longer-spec = tie.close (tie.spec add-steps add-t7 returns add-t8 returns-2)
+pub longer_spec : {M : Type 1} → statement M
+longer_spec = tie.close (tie.spec add-steps add-t7 returns add-t8 returns-2)

@@ -17,23 +17,23 @@ first s = first_route (graph s.args.f s.args.map.now) s.args.start s.args.costs.
 steps : {l k : RouteLength} → l ≡ k → l.steps ≡ k.steps
 steps e = ap (λ (l : RouteLength). l.steps) e
 
-write-back-requires : tie.Need-write-back-requires
+write-back-requires : tie.Need-write_back-length-requires
 write-back-requires c κs = search rules
 
 reverse-requires : tie.Need-reverse-requires
 reverse-requires c κs =
-    let b = c.before.before.before.write-back in
+    let b = c.write_back-length in
     let s = c.before.before.before.before.before.before.before.before in
     (omega arith, omega (arith, back_fits (first s) s.args.route.now b.new.1.1.1.1.1.0 b.result.steps (steps b.ensures.0) b.ensures.1))
 
-same_length : tie.Need-same-length
+same_length : tie.Need-shape_of-route
 same_length c = search rules
 
 returns : tie.Need-returns
 returns c =
-    let b = c.before.before.before.before.before.before.write-back in
+    let b = c.write_back-length in
     let s = c.before.before.before.before.before.before.before.before.before.before.before in
-    (b.ensures.0, turned_round (first s) s.args.route.now _ _ _ (steps b.ensures.0) b.ensures.1 c.before.before.reverse.ensures)
+    (b.ensures.0, turned_round (first s) s.args.route.now _ _ _ (steps b.ensures.0) b.ensures.1 c.reverse.ensures)
 
-pub write-route-spec : {M : Type 1} → statement M
-write-route-spec = tie.close (tie.spec write-back-requires reverse-requires same_length returns)
+pub write_route_spec : {M : Type 1} → statement M
+write_route_spec = tie.close (tie.spec write-back-requires reverse-requires same_length returns)

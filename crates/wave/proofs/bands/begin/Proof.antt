@@ -12,29 +12,29 @@ use Rattle.wave.proofs.bands.begin.Tie as tie
 fill-requires : tie.Need-fill-requires
 fill-requires c κs = search rules
 
-mul-costs : tie.Need-overflow-mul-costs
+mul-costs : tie.Need-offset_bounds-costs-start
 mul-costs c = search rules
 
-slice-write-costs : tie.Need-slice-write-costs
+slice-write-costs : tie.Need-bounds-costs-start
 slice-write-costs c = search rules
 
-cast-work : tie.Need-overflow-cast-work
+cast-work : tie.Need-overflow_cast-work
 cast-work c = search rules
 
-slice-write-work : tie.Need-slice-write-work
+slice-write-work : tie.Need-bounds-work-0
 slice-write-work c = search rules
 
-same_length : tie.Need-same-length
+same_length : tie.Need-shape_of-costs
 same_length c = search rules
 
-same-length-2 : tie.Need-same-length-2
+same-length-2 : tie.Need-shape_of-work
 same-length-2 c = search rules
 
 returns : tie.Need-returns
 returns c =
-    let s = c.before.before.before.before.before.before in
+    let s = c in
     record {
-      costs_are = ap (λ (t : List ℕ). set t s.args.start 0) c.before.before.fill.ensures;
+      costs_are = ap (λ (t : List ℕ). set t s.args.start 0) c.fill.ensures;
       first = get_or-set_same s.args.work.now 0 s.args.start 0 (omega (arith, s.requires));
       from = refl;
       len = refl;
@@ -42,8 +42,8 @@ returns c =
       settled = refl;
     }
 
-pub begin-spec : {M : Type 1} → statement M
-begin-spec =
+pub begin_spec : {M : Type 1} → statement M
+begin_spec =
     tie.close
     (tie.spec
     fill-requires

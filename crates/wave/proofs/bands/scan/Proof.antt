@@ -10,81 +10,81 @@ use Rattle.wave.proofs.Visits.{band_same, band_done}
 use Rattle.wave.proofs.bands.scan.Statement.{statement}
 use Rattle.wave.proofs.bands.scan.Tie as tie
 
-abbrev invariant_loop : tie.invariant_loop
+abbrev invariant_loop : tie.invariant-loop-at
 invariant_loop f map costs₀ work₀ band limit front bound first other stop end₀ at₀ costs work end at =
     (at ≤ stop) × ((s : ℕ) → ScanAt f map s costs₀ work₀ band → InBand f map s costs work bound at stop other end)
     × (length costs ≡ length costs₀) × (length work ≡ length work₀)
 
-abbrev decreases_loop : tie.decreases_loop
+abbrev decreases_loop : tie.decreases-loop-at
 decreases_loop f map costs₀ work₀ band limit front bound first other stop end₀ at₀ costs work end at = stop - at
 
-sub-other : tie.Need-overflow-sub-other invariant_loop decreases_loop
+sub-other : tie.Need-overflow_sub-other invariant_loop decreases_loop
 sub-other c =
-    let x = c.before.before.before.before.requires.here in
+    let x = c.requires.here in
     ⊎_elim (λ h. omega arith) (λ h. omega (arith, x.band.wave.covers)) x.between.half
 
-add-stop : tie.Need-overflow-add-stop invariant_loop decreases_loop
-add-stop c = omega (arith, c.before.before.before.before.before.requires.here.band.halves)
+add-stop : tie.Need-overflow_add-stop invariant_loop decreases_loop
+add-stop c = omega (arith, c.requires.here.band.halves)
 
-loop-holds : tie.Need-loop-init invariant_loop decreases_loop
+loop-holds : tie.Need-loop-at-init invariant_loop decreases_loop
 loop-holds c = (omega arith, (λ s x. x.band), refl, refl)
 
-visit-requires : tie.Need-visit-requires invariant_loop decreases_loop
+visit-requires : tie.Need-visit-end-requires invariant_loop decreases_loop
 visit-requires c κs =
-    let l = c.before.before.before in
-    let p = l.before.before.before.before.before.before.requires in
-    let b = l.loop.invariant.1 p.s p.here in
+    let l = c in
+    let p = l.requires in
+    let b = l.loop-at.invariant.1 p.s p.here in
     record {
       s = p.s;
       stop = _;
       other = _;
       here = b;
-      before = c.before.before.loop-test.true;
+      before = c.loop-at-test.true;
       within = omega (arith, band_same p.here.band b, p.here.counted, p.within);
     }
 
-add_at : tie.Need-overflow-add-at invariant_loop decreases_loop
+add_at : tie.Need-overflow_add-at invariant_loop decreases_loop
 add_at c = omega arith
 
-loop-less : tie.Need-loop-smaller invariant_loop decreases_loop
+loop-less : tie.Need-loop-at-smaller invariant_loop decreases_loop
 loop-less c = omega arith
 
-loop-again : tie.Need-loop-preserved invariant_loop decreases_loop
+loop-again : tie.Need-loop-at-preserved invariant_loop decreases_loop
 loop-again c =
-    let v = c.before.before.before.before in
-    let t = v.before.before.before in
-    let i = t.before.loop.invariant in (
+    let v = c in
+    let t = v in
+    let i = t.loop-at.invariant in (
       omega arith,
-      (λ s x. v.visit.ensures s _ _ t.loop-test.true (i.1 s x)),
-      v.visit.auto.1.1.0 ∙ i.2,
-      v.visit.auto.1.1.1.0 ∙ i.3,
+      (λ s x. v.visit-end.ensures s _ _ t.loop-at-test.true (i.1 s x)),
+      v.visit-end.auto.1.1.0 ∙ i.2,
+      v.visit-end.auto.1.1.1.0 ∙ i.3,
     )
 
-sub-t14 : tie.Need-overflow-sub-t14 invariant_loop decreases_loop
+sub-t14 : tie.Need-overflow_sub-result invariant_loop decreases_loop
 sub-t14 c =
-    let p = c.before.before.before.before.before.before.before.requires in
-    omega (arith, (c.before.loop.invariant.1 p.s p.here).halves)
+    let p = c.requires in
+    omega (arith, (c.loop-at.invariant.1 p.s p.here).halves)
 
-add-t20 : tie.Need-overflow-add-t20 invariant_loop decreases_loop
+add-t20 : tie.Need-overflow_add-result invariant_loop decreases_loop
 add-t20 c =
-    let s = c.before.before.before.before.before.before.before.before.before in
+    let s = c in
     omega (arith, s.requires.here.counted, cheaper_most s.args.costs.now s.args.band.bound)
 
-same_length : tie.Need-same-length invariant_loop decreases_loop
-same_length c = c.before.before.before.loop.invariant.2
+same_length : tie.Need-shape_of-costs invariant_loop decreases_loop
+same_length c = c.loop-at.invariant.2
 
-same-length-2 : tie.Need-same-length-2 invariant_loop decreases_loop
-same-length-2 c = c.before.before.before.loop.invariant.3
+same-length-2 : tie.Need-shape_of-work invariant_loop decreases_loop
+same-length-2 c = c.loop-at.invariant.3
 
 returns : tie.Need-returns invariant_loop decreases_loop
 returns c = λ s x.
-    let l = c.before.before.before.loop in
-    let o = c.before.before.before.before.before.before.before.before.before.args.band.front in
-    let e : l.at ≡ o.from + o.len = omega (arith, c.before.before.loop-test.false, l.invariant.0) in
+    let l = c.loop-at in
+    let o = c.args.band.front in
+    let e : l.at ≡ o.from + o.len = omega (arith, c.loop-at-test.false, l.invariant.0) in
     band_done x (rw e at (l.invariant.1 s x)) l.invariant.3
 
-pub scan-spec : {M : Type 1} → statement M
-scan-spec =
+pub scan_spec : {M : Type 1} → statement M
+scan_spec =
     tie.close
     (tie.spec
     invariant_loop

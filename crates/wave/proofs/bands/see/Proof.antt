@@ -5,50 +5,50 @@ use Rattle.wave.specs.Bands.{no_less, known, new}
 use Rattle.wave.proofs.bands.see.Statement.{statement}
 use Rattle.wave.proofs.bands.see.Tie as tie
 
-mul-old : tie.Need-overflow-mul-old
+mul-old : tie.Need-offset_bounds-costs-to
 mul-old c = search rules
 
-slice-read-old : tie.Need-slice-read-old
+slice-read-old : tie.Need-bounds-costs-to
 slice-read-old c = search rules
 
-returns : tie.Need-returns
-returns c = no_less c.if1.true
+returns : tie.Need-returns-then-old-cost
+returns c = no_less c.if-old-cost.true
 
-mul-costs : tie.Need-overflow-mul-costs
+mul-costs : tie.Need-offset_bounds-costs-to-2
 mul-costs c = search rules
 
-slice-write-costs : tie.Need-slice-write-costs
+slice-write-costs : tie.Need-bounds-costs-to-2
 slice-write-costs c = search rules
 
-cast-work : tie.Need-overflow-cast-work
+cast-work : tie.Need-overflow_cast-work
 cast-work c = search rules
 
-mul-work : tie.Need-overflow-mul-work
-mul-work c = omega (arith, c.before.before.before.requires.room c.if2.true)
+mul-work : tie.Need-offset_bounds-work-end
+mul-work c = omega (arith, c.requires.room c.if-old.true)
 
-slice-write-work : tie.Need-slice-write-work
-slice-write-work c = c.before.before.before.requires.room c.if2.true
+slice-write-work : tie.Need-bounds-work-end
+slice-write-work c = c.requires.room c.if-old.true
 
-add-result : tie.Need-overflow-add-result
-add-result c = omega (arith, c.before.before.before.requires.room c.if2.true)
+add-result : tie.Need-overflow_add-result
+add-result c = omega (arith, c.requires.room c.if-old.true)
 
-same_length : tie.Need-same-length
+same_length : tie.Need-shape_of-costs-then-old
 same_length c = search rules
 
-same-length-2 : tie.Need-same-length-2
+same-length-2 : tie.Need-shape_of-work-then-old
 same-length-2 c = search rules
 
-returns-2 : tie.Need-returns-2
-returns-2 c = new c.before.if1.false c.if2.true
+returns-2 : tie.Need-returns-then-old
+returns-2 c = new c.if-old-cost.false c.if-old.true
 
-same-length-3 : tie.Need-same-length-3
+same-length-3 : tie.Need-shape_of-costs
 same-length-3 c = search rules
 
-returns-3 : tie.Need-returns-3
-returns-3 c = known c.before.if1.false c.if2.false
+returns-3 : tie.Need-returns
+returns-3 c = known c.if-old-cost.false c.if-old.false
 
-pub see-spec : {M : Type 1} → statement M
-see-spec =
+pub see_spec : {M : Type 1} → statement M
+see_spec =
     tie.close
     (tie.spec
     mul-old

@@ -8,27 +8,27 @@ use Rattle.wave.proofs.Rounds.{begun_open}
 use Rattle.wave.proofs.bands.settle.Statement.{statement}
 use Rattle.wave.proofs.bands.settle.Tie as tie
 
-begin-requires : tie.Need-begin-requires
+begin-requires : tie.Need-begin-front-requires
 begin-requires c κs =
-    let e = c.before.before.before.before.before in
+    let e = c in
     let p = e.requires in
     (omega (arith, p.1, p.3), omega (arith, p.3, p.4), omega (arith, p.1, (lawful e.args.f e.args.map.now p.0).cells_fit))
 
-begun : (c : tie.After-begin) →
-    let a = c.before.before.before.before.before.before.args in
-    OpenAt a.f a.map.now a.start c.begin.new.0 c.begin.new.1.0 a.goal a.limit c.begin.result
+begun : (c : tie.After-begin-front) →
+    let a = c.args in
+    OpenAt a.f a.map.now a.start c.begin-front.new.0 c.begin-front.new.1.0 a.goal a.limit c.begin-front.result
 begun c =
-    let e = c.before.before.before.before.before.before in
+    let e = c in
     let p = e.requires in
-    begun_open e.args.f e.args.map.now p.0 p.1 (rw p.3 at c.begin.ensures) (c.begin.auto.1.0 ∙ p.4) e.args.goal e.args.limit p.2
+    begun_open e.args.f e.args.map.now p.0 p.1 (rw p.3 at c.begin-front.ensures) (c.begin-front.auto.1.0 ∙ p.4) e.args.goal e.args.limit p.2
 
-go-on-requires : tie.Need-go-on-requires
+go-on-requires : tie.Need-go_on-requires
 go-on-requires c κs = record { s = _; here = begun c.before.before.before.before.before.before }
 
-same_length : tie.Need-same-length
+same_length : tie.Need-shape_of-costs
 same_length c = search rules
 
-same-length-2 : tie.Need-same-length-2
+same-length-2 : tie.Need-shape_of-work
 same-length-2 c = search rules
 
 returns : tie.Need-returns
@@ -36,5 +36,5 @@ returns c =
     let k = c.before.before.before.before in
     k.go_on.ensures _ (begun k.before.before.before.before.before.before.before)
 
-pub settle-spec : {M : Type 1} → statement M
-settle-spec = tie.close (tie.spec begin-requires go-on-requires same_length same-length-2 returns)
+pub settle_spec : {M : Type 1} → statement M
+settle_spec = tie.close (tie.spec begin-requires go-on-requires same_length same-length-2 returns)
