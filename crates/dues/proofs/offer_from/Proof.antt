@@ -28,7 +28,7 @@ returns c =
     rw (offer_into s.f s.map.now s.costs.now s.cell s.direction, ← t.step_into-step.ensures, c.in_default.is)
 
 abbrev start : tie.In-From → tie.Start
-start c = c.before.before.before.before.before.before
+start c = c.before.before.before.before
 
 -- where the step comes from
 leaves : (c : tie.In-From) →
@@ -42,7 +42,7 @@ inside c =
     omega (arith, (into_inside s.args.f s.args.map.now s.args.cell s.args.direction _ _ (leaves c)).1, s.requires.1)
 
 mul-value : tie.Need-offset_bounds-costs-from
-mul-value c = omega (arith, inside c, (start c).well-formed)
+mul-value c = omega (arith, inside c, (start c).well_formed)
 
 shared-slice-read-value : tie.Need-bounds-costs-from
 shared-slice-read-value c = inside c.before

@@ -14,6 +14,7 @@ use Rattle.paths.specs.Below.{every}
 use Rattle.floor.specs.Place.{greatest_weight}
 use Rattle.screens.proofs.has_weights.Statement.{statement}
 use Rattle.screens.proofs.has_weights.Tie as tie
+use Rattle.screens.proofs.has_weights.Lts.{then-byte-greatest, else-byte-greatest}
 
 abbrev is_weight : List ℕ → ℕ → Bool
 is_weight m v = leb (get_or m v 0) greatest_weight
@@ -51,7 +52,7 @@ loop-less c = omega arith
 loop-again : tie.Need-loop-at-preserved invariant_loop decreases_loop
 loop-again c =
     let l = c.loop-at in
-    (omega arith, rw add-one (one_more l.greatest _ c.if-byte-greatest.greatest _ l.invariant.1 (⊎_elim (λ w. inl (w.0.taken, w.1)) (λ w. inr (w.0.left, w.1)) c.if-byte-greatest.branch)))
+    (omega arith, rw add-one (one_more l.greatest _ c.if-byte-greatest.greatest _ l.invariant.1 (elim c.if-byte-greatest.branch [ then-byte-greatest w ↦ inl (w.if-byte-greatest.true, w.greatest-is) | else-byte-greatest w ↦ inr (w.if-byte-greatest.false, w.greatest-is) ])))
 
 returns : tie.Need-returns invariant_loop decreases_loop
 returns c =

@@ -29,11 +29,11 @@ later s = room_lines s.args.f s.args.costs s.args.work s.args.route
 
 -- only those are left
 left : (c : tie.In-Passed) →
-    let s = c.before.before.before.before in
+    let s = c.before.before.before in
     screen (length_lines s.args.f s.args.map.now s.args.start s.args.goal s.args.costs s.args.work s.args.route)
     ≡ screen (later s)
 left c =
-    let s = c.before.before.before.before in
+    let s = c.before.before.before in
     screen_after (question_lines s.args.f s.args.map.now s.args.start s.args.goal) (later s) _ _ c.screen_question-question.ensures c.in-Passed.is
 
 covers : (c : tie.In-Passed) → let s = c in length s.args.map.now ≡ cells s.args.f
@@ -68,8 +68,8 @@ returns-3 c =
 
 returns-4 : tie.Need-returns-in-Refused
 returns-4 c =
-    let t = c.before in
-    let s = t.before.before.before.before in
+    let t = c in
+    let s = t.before.before.before in
     rw (screen_after (question_lines s.args.f s.args.map.now s.args.start s.args.goal) (later s) _ _ t.screen_question-question.ensures t.in-Refused.is)
 
 returns-5 : tie.Need-returns-else-route-cells

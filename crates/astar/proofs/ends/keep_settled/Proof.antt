@@ -14,6 +14,7 @@ use Rattle.spread.specs.declared.Aim.{Aim}
 use Rattle.astar.proofs.Keeps.{keeps, settled_values, keeps_by_cost, settled_counted, count_more}
 use Rattle.astar.proofs.ends.keep_settled.Statement.{statement}
 use Rattle.astar.proofs.ends.keep_settled.Tie as tie
+use Rattle.astar.proofs.ends.keep_settled.Lts.{then-cost, else-cost}
 
 abbrev left : Aim → ℕ → ℕ
 left a = estimate a.floor a.goal
@@ -100,7 +101,7 @@ loop-again c =
     let i = at.loop-cell.cell in (
       omega (arith, covers at),
       count_more h costs goal i at.loop-cell.settled c.if-cost.settled k.kept_cost-cost.result (keeping k) at.loop-cell.invariant.1
-          (⊎_elim (λ w. inl (w.0.taken, w.1)) (λ w. inr (w.0.left, w.1)) c.if-cost.branch),
+          (elim c.if-cost.branch [ then-cost w ↦ inl (w.if-cost.true, w.settled-is) | else-cost w ↦ inr (w.if-cost.false, w.settled-is) ]),
       rw (at.loop-cell.invariant.2, keeping k) (kept_next (keeps h costs goal) costs i (omega (arith, covers at))),
     )
 

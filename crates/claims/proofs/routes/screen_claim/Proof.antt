@@ -51,16 +51,16 @@ module _ (c : tie.After-screen_question-question) where
 
 returns : tie.Need-returns-then-map-route
 returns c =
-    let t = c.before.before.before in
+    let t = c.before.before in
     let e = c.in-Passed.is in
     rw (after t Passed e, lt-ltb (cells (f t) - 1) (length (claimed t).route) (omega (arith, covers t e, inside t e)))
 
 returns-2 : tie.Need-returns-in-Refused
-returns-2 c = rw (after c.before.before.before _ c.in-Refused.is)
+returns-2 c = rw (after c.before _ c.in-Refused.is)
 
 returns-3 : tie.Need-returns-else-map-route
 returns-3 c =
-    let t = c.before.before.before in
+    let t = c.before.before in
     let e = c.in-Passed.is in
     rw (after t Passed e, le-ltb (cells (f t) - 1) (length (claimed t).route) (omega (arith, covers t e)))
 

@@ -61,7 +61,7 @@ enum-known-step-2 c = search rules
 
 loop-again : tie.Need-loop-i-preserved invariant_loop decreases_loop
 loop-again c =
-    let t = c.before.before.before in
+    let t = c.before in
     let l = t.before.before in
     let s = l.before.before.before.before in
     one_more l.loop-i.invariant (claim_passed (f s) (map s) (claimed s) s.requires) l.loop-i-test.true (sym t.step_test-step.ensures ∙ c.in-To.is)

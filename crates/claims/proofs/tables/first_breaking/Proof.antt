@@ -30,7 +30,7 @@ loop-holds : tie.Need-loop-cell-init invariant_loop decreases_loop
 loop-holds c = (refl, omega arith)
 
 mul-if1 : tie.Need-offset_bounds-costs-cell invariant_loop decreases_loop
-mul-if1 c = let s = c.before.before.before.before in omega (arith, covers s, s.requires.1, s.well-formed)
+mul-if1 c = let s = c.before.before.before.before in omega (arith, covers s, s.requires.1, s.well_formed)
 
 shared-slice-read-if1 : tie.Need-bounds-costs-cell invariant_loop decreases_loop
 shared-slice-read-if1 c = let s = c.before.before.before.before.before in omega (arith, covers s, s.requires.1)

@@ -50,16 +50,16 @@ module _ (c : tie.After-screen_question-question) where
 
 returns : tie.Need-returns-then-costs-map
 returns c =
-    let t = c.before.before.before in
+    let t = c.before.before in
     let e = c.in-Passed.is in
     rw (after t Passed e, lt-ltb (length (costs t)) (cells (f t)) (omega (arith, covers t e)))
 
 returns-2 : tie.Need-returns-in-Refused
-returns-2 c = rw (after c.before.before.before _ c.in-Refused.is)
+returns-2 c = rw (after c.before _ c.in-Refused.is)
 
 returns-3 : tie.Need-returns-else-costs-map
 returns-3 c =
-    let t = c.before.before.before in
+    let t = c.before.before in
     let e = c.in-Passed.is in
     rw (after t Passed e, le-ltb (length (costs t)) (cells (f t)) (omega (arith, covers t e)))
 

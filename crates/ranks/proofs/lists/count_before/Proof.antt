@@ -8,6 +8,7 @@ use Rattle.ranks.specs.Listed.{key_below}
 use Rattle.ranks.proofs.Keys.{key_below_none, key_below_counted, key_below_passed}
 use Rattle.ranks.proofs.lists.count_before.Statement.{statement}
 use Rattle.ranks.proofs.lists.count_before.Tie as tie
+use Rattle.ranks.proofs.lists.count_before.Lts.{then-key_of-key, else-key_of-key}
 
 abbrev invariant_loop : tie.invariant-loop-i
 invariant_loop costs work from len key n₀ i₀ n i = (i ≤ len) × (n ≤ i) × (n ≡ key_below costs work from i key)
@@ -64,11 +65,8 @@ loop-again c =
     let work = s.args.work.now in
     let h : s.args.from + at.i < length work = omega (arith, s.requires.0.fits) in (
       omega arith,
-      ⊎_elim (λ w. omega arith) (λ w. omega arith) c.if-key_of-key.branch,
-      ⊎_elim
-          (λ w. omega (arith, key_below_counted costs work s.args.from s.args.key at.i h (omega arith)))
-          (λ w. omega (arith, key_below_passed costs work s.args.from s.args.key at.i h (omega arith)))
-          c.if-key_of-key.branch,
+      (elim c.if-key_of-key.branch [ then-key_of-key w ↦ omega arith | else-key_of-key w ↦ omega arith ]),
+      (elim c.if-key_of-key.branch [ then-key_of-key w ↦ omega (arith, key_below_counted costs work s.args.from s.args.key at.i h (omega arith)) | else-key_of-key w ↦ omega (arith, key_below_passed costs work s.args.from s.args.key at.i h (omega arith)) ]),
     )
 
 returns : tie.Need-returns invariant_loop decreases_loop

@@ -7,6 +7,7 @@ use Rattle.ranks.specs.Listed.{below_in}
 use Rattle.ranks.proofs.Looks.{below_none, below_counted}
 use Rattle.ranks.proofs.lists.count_below.Statement.{statement}
 use Rattle.ranks.proofs.lists.count_below.Tie as tie
+use Rattle.ranks.proofs.lists.count_below.Lts.{then-costs-cell, else-costs-cell}
 
 abbrev invariant_loop : tie.invariant-loop-i
 invariant_loop costs work from len bound n₀ i₀ n i = (i ≤ len) × (n ≤ i) × (n ≡ below_in costs work from i bound)
@@ -55,9 +56,9 @@ loop-again c =
     let l = c.loop-i in
     let s = c in (
       omega arith,
-      ⊎_elim (λ w. omega arith) (λ w. omega arith) c.if-costs-cell.branch,
+      (elim c.if-costs-cell.branch [ then-costs-cell w ↦ omega arith | else-costs-cell w ↦ omega arith ]),
       below_counted s.args.costs.now s.args.work.now s.args.from s.args.bound l.i l.n c.if-costs-cell.n (omega (arith, s.requires)) l.invariant.2
-          (⊎_elim (λ w. inl (w.0.taken, w.1)) (λ w. inr (w.0.left, w.1)) c.if-costs-cell.branch),
+          (elim c.if-costs-cell.branch [ then-costs-cell w ↦ inl (w.if-costs-cell.true, w.n-is) | else-costs-cell w ↦ inr (w.if-costs-cell.false, w.n-is) ]),
     )
 
 returns : tie.Need-returns invariant_loop decreases_loop

@@ -8,6 +8,7 @@ use Rattle.paths.proofs.Below.{least_first, least_more}
 use Rattle.ranks.specs.Listed.{IsLeast}
 use Rattle.ranks.proofs.lists.least_cost.Statement.{statement}
 use Rattle.ranks.proofs.lists.least_cost.Tie as tie
+use Rattle.ranks.proofs.lists.least_cost.Lts.{then-cost-least, else-cost-least}
 
 abbrev invariant_loop : tie.invariant-loop-i
 invariant_loop costs work from len head least₀ i₀ least i = (1 ≤ i) × (i ≤ len) × IsLeast costs work from i least
@@ -76,7 +77,7 @@ loop-again c =
       omega arith,
       omega arith,
       least_more _ l.i l.least c.if-cost-least.least l.invariant.2
-          (⊎_elim (λ w. inl (w.0.taken, w.1)) (λ w. inr (w.0.left, w.1)) c.if-cost-least.branch),
+          (elim c.if-cost-least.branch [ then-cost-least w ↦ inl (w.if-cost-least.true, w.least-is) | else-cost-least w ↦ inr (w.if-cost-least.false, w.least-is) ]),
     )
 
 returns : tie.Need-returns invariant_loop decreases_loop

@@ -78,8 +78,8 @@ search-rooms-requires c κs =
 
 returns : tie.Need-returns-in-Refused
 returns c =
-    let t = c.before in
-    let s = t.before.before.before.before.before.before.before in
+    let t = c in
+    let s = t.before.before.before.before.before.before in
     searched_refused s.args.f s.args.map.now (asked s) (lent s) _ _ (sym t.screen_search-screen.ensures ∙ t.in-Refused.is)
 
 same_length : tie.Need-shape_of-costs

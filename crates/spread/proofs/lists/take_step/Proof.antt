@@ -32,10 +32,10 @@ told : (c : tie.In-Enters) →
 told c = sym c.step_onward-step.ensures ∙ c.in-Enters.is
 
 mul-sum : tie.Need-offset_bounds-costs-cell
-mul-sum c = omega (arith, inside c.before.before.before.before.before.before.before)
+mul-sum c = omega (arith, inside c.before.before.before.before.before)
 
 slice-read-sum : tie.Need-bounds-costs-cell
-slice-read-sum c = inside c.before.before.before.before.before.before.before.before
+slice-read-sum c = inside c.before.before.before.before.before.before
 
 cast-sum : tie.Need-overflow_cast-sum
 cast-sum c = omega (arith, c.slice_known-3-1.given c.args.cell)

@@ -7,6 +7,7 @@ use Rattle.paths.proofs.Below.{least_first, least_more}
 use Rattle.spread.specs.Listing.{greatest_sum, IsLeastSum}
 use Rattle.spread.proofs.passes.least_sum.Statement.{statement}
 use Rattle.spread.proofs.passes.least_sum.Tie as tie
+use Rattle.spread.proofs.passes.least_sum.Lts.{then-sum-least, else-sum-least}
 
 abbrev invariant_loop : tie.invariant-loop-i
 invariant_loop aim costs work len head least₀ i₀ least i = (1 ≤ i) × (i ≤ len) × IsLeastSum aim costs work i least × (least ≤ greatest_sum)
@@ -53,8 +54,8 @@ loop-again c =
       omega arith,
       omega arith,
       least_more _ l.i l.least c.if-sum-least.least l.invariant.2
-          (⊎_elim (λ w. inl (omega (arith, w.0.taken, q), w.1 ∙ q)) (λ w. inr (omega (arith, w.0.left, q), w.1)) c.if-sum-least.branch),
-      ⊎_elim (λ w. omega (arith, w.1, c.sum_of-sum.ensures.1)) (λ w. omega (arith, w.1, l.invariant.3)) c.if-sum-least.branch,
+          (elim c.if-sum-least.branch [ then-sum-least w ↦ inl (omega (arith, w.if-sum-least.true, q), w.least-is ∙ q) | else-sum-least w ↦ inr (omega (arith, w.if-sum-least.false, q), w.least-is) ]),
+      (elim c.if-sum-least.branch [ then-sum-least w ↦ omega (arith, w.least-is, c.sum_of-sum.ensures.1) | else-sum-least w ↦ omega (arith, w.least-is, l.invariant.3) ]),
     )
 
 returns : tie.Need-returns invariant_loop decreases_loop

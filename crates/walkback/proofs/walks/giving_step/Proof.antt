@@ -27,7 +27,7 @@ returns c =
     no_step s.args.f s.args.map.now s.args.costs.now s.args.cell s.args.direction (sym t.step_into-step.ensures ∙ c.in_default.is)
 
 abbrev start : (c : tie.In-From) → tie.Start
-start c = c.before.before.before.before.before.before
+start c = c.before.before.before.before
 
 -- where the step comes from
 leaves : (c : tie.In-From) →
@@ -41,7 +41,7 @@ inside c =
     omega (arith, (into_inside s.args.f s.args.map.now s.args.cell s.args.direction _ _ (leaves c)).1, s.requires.0.covers)
 
 mul-before : tie.Need-offset_bounds-costs-from
-mul-before c = omega (arith, inside c, (start c).well-formed)
+mul-before c = omega (arith, inside c, (start c).well_formed)
 
 shared-slice-read-before : tie.Need-bounds-costs-from
 shared-slice-read-before c = inside c.before

@@ -45,7 +45,7 @@ enum-known-step c = search rules
 returns : tie.Need-returns-in-From invariant_loop decreases_loop
 unfolding Giving last_step
 returns c =
-    let t = c.before.before.before in
+    let t = c.before in
     let at = t.before.before in
     let r = rw c.in-From.is at t.giving_step-step.ensures in
     record {
@@ -65,7 +65,7 @@ loop-less c = omega (arith, c.loop-direction-test.true)
 loop-again : tie.Need-loop-direction-preserved invariant_loop decreases_loop
 unfolding Giving
 loop-again c =
-    let t = c.before.before in
+    let t = c.before in
     let at = t.before.before in
     let r = rw c.in_default.is at t.giving_step-step.ensures in
     (rw add-one (lowest_next (test at.before.before.before.before) at.loop-direction.direction at.loop-direction.invariant.0 r), omega (arith, t.loop-direction-test.true))

@@ -26,10 +26,10 @@ inside : (s : tie.Start) → s.args.cell < length s.args.costs.now
 inside s = omega (arith, cell_inside s.requires.0.here, s.requires.0.here.band.wave.covers)
 
 mul-base : tie.Need-offset_bounds-costs-cell
-mul-base c = omega (arith, inside c.before.before.before.before.before.before.before)
+mul-base c = omega (arith, inside c.before.before.before.before.before)
 
 slice-read-base : tie.Need-bounds-costs-cell
-slice-read-base c = inside c.before.before.before.before.before.before.before.before
+slice-read-base c = inside c.before.before.before.before.before.before
 
 told : (c : tie.In-Enters) →
     let s = c in
