@@ -8,7 +8,6 @@ use native.Mathlib.Numerals.{add-one}
 use native.Mathlib.Nat.{add_comm}
 use lib.ListN.{length, get_or, set, take, drop, length-append, length-reverse, length-set}
 use lib.Seq.{drop-cons, set_at, take-append_seam, drop-append_seam}
-use Rattle.bytes.specs.Bytes.{rev, slice}
 use Rattle.paths.specs.Graph.{MARK}
 use Rattle.paths.specs.First.{last_step}
 use Rattle.paths.proofs.Firsts.{reverse_snoc}
@@ -127,8 +126,7 @@ parts xs ys n e = rw (← e) (take-append_seam xs ys, drop-append_seam xs ys)
 
 -- what was written backwards, turned round, is the route
 pub turned_round : (ds room back route : List ℕ) (n : ℕ) → n ≡ length ds → back ≡ reverse ds ++ drop n room
-    → route ≡ take 0 back ++ (rev (slice 0 n back) ++ drop n back) → route ≡ ds ++ drop n room
-unfolding rev slice
+    → route ≡ reverse (take n back) ++ drop n back → route ≡ ds ++ drop n room
 turned_round ds room back route n e w r =
     let p = parts (reverse ds) (drop n room) n (length-reverse ds ∙ sym e) in
     let t : take n back ≡ reverse ds = ap (take n) w ∙ p.0 in
