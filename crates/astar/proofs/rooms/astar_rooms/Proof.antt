@@ -46,7 +46,7 @@ returns c =
     let d = e.before.before.before.before.before.before in
     let b = d.before.before.before.before.before.before.before in
     let s = start b.before.before.before.before in
-    (d.finish-answer.ensures, e.fill.ensures ∙ ap (λ (n : ℕ). replicate n 0) (b.settle.auto.1.1.1.1.0 ∙ s.requires.1.1))
+    (d.finish-answer.ensures, e.fill.ensures ∙ ap (λ (n : ℕ). replicate n 0) (b.settle.auto.work ∙ s.requires.1.1))
 
 pub astar_rooms_spec : {M : Type 1} → statement M
 astar_rooms_spec =

@@ -39,9 +39,9 @@ loop-again c =
     let a = c.answer_at in
     let i = (at_loop c).loop-left.invariant in (
       answering_next i.0 (omega arith) a.ensures,
-      a.auto.1.1.1.1.0 ∙ i.1,
-      a.auto.1.1.1.1.1.0 ∙ i.2,
-      a.auto.1.1.1.1.1.1.0 ∙ i.3,
+      a.auto.costs ∙ i.1,
+      a.auto.work ∙ i.2,
+      a.auto.route ∙ i.3,
     )
 
 same_length : tie.Need-shape_of-records invariant_loop decreases_loop

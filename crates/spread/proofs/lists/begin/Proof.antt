@@ -35,8 +35,8 @@ mul-work c = search rules
 slice-write-work-2 : tie.Need-bounds-work-flag
 slice-write-work-2 c =
     let e = c in
-    let k = c.fill-2.auto.0 in
-    omega (arith, e.requires.inside, e.requires.double, k, length-set c.fill-2.new.0 0 e.args.start)
+    let k = c.fill-2.auto.room in
+    omega (arith, e.requires.inside, e.requires.double, k, length-set c.fill-2.new.room 0 e.args.start)
 
 same_length : tie.Need-shape_of-costs
 same_length c = search rules

@@ -17,7 +17,7 @@ sub-take-steps c = search rules
 begun : (c : tie.After-take_off-cell) (z : ℕ) →
     let a = c.args in
     Listing a.f a.map.now z a.costs.now a.work.now a.len
-    → Taking a.f a.map.now z c.take_off-cell.result 0 a.costs.now c.take_off-cell.new.1.0 (a.len - 1)
+    → Taking a.f a.map.now z c.take_off-cell.result 0 a.costs.now c.take_off-cell.new.work (a.len - 1)
 begun c z x =
     let s = c in
     rw (c.take_off-cell.ensures.0, c.take_off-cell.ensures.1) (takes_off x s.args.at s.requires.before)

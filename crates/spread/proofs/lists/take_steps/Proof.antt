@@ -38,7 +38,7 @@ loop-again : tie.Need-loop-direction-preserved invariant_loop decreases_loop
 loop-again c =
     let i = c.loop-direction.invariant in
     let a = c.take_step-last in
-    (omega arith, (λ s x. a.ensures.0 s (i.1 s x)), omega (arith, a.ensures.1, i.2), a.auto.1.1.0 ∙ i.3, a.auto.1.1.1.0 ∙ i.4)
+    (omega arith, (λ s x. a.ensures.0 s (i.1 s x)), omega (arith, a.ensures.1, i.2), a.auto.costs ∙ i.3, a.auto.work ∙ i.4)
 
 same_length : tie.Need-shape_of-costs invariant_loop decreases_loop
 same_length c = c.loop-direction.invariant.3

@@ -44,13 +44,13 @@ cast-cell c = omega (arith, cell_at (here c.before) _ c.loop-at-test.true, fewer
 
 sum-of-requires : tie.Need-sum_of-requires invariant_loop decreases_loop
 sum-of-requires c κs =
-    let t = c.before.before in
+    let t = c.before in
     let p = c.requires in
     let l = can_look _ (here t) p.aims in
     (p.aims, l.cell _ t.loop-at-test.true, l.small)
 
 expand-requires : tie.Need-expand-end-requires invariant_loop decreases_loop
-expand-requires c κs = let t = c.before.before.before.before.before.before in record { s = _; here = here t; before = t.loop-at-test.true }
+expand-requires c κs = let t = c.before.before.before.before.before in record { s = _; here = here t; before = t.loop-at-test.true }
 
 loop-less : tie.Need-loop-at-smaller-then-sum_of-top invariant_loop decreases_loop
 loop-less c = omega (arith, c.expand-end.ensures.1, c.loop-at-test.true)
@@ -59,10 +59,10 @@ loop-again : tie.Need-loop-at-preserved-then-sum_of-top invariant_loop decreases
 loop-again c =
     let e = c.expand-end in
     let i = c.loop-at.invariant in
-    ((λ s x. e.ensures.0 s (i.0 s x)), progress_taken _ _ _ _ _ i.1 e.ensures.1, e.auto.1.1.0 ∙ i.2, e.auto.1.1.1.0 ∙ i.3)
+    ((λ s x. e.ensures.0 s (i.0 s x)), progress_taken _ _ _ _ _ i.1 e.ensures.1, e.auto.costs ∙ i.2, e.auto.work ∙ i.3)
 
 add_at : tie.Need-overflow_add-at invariant_loop decreases_loop
-add_at c = let t = c.before.before.before.before in omega (arith, (here t).listed.few, fewer t, t.loop-at-test.true)
+add_at c = let t = c.before.before.before in omega (arith, (here t).listed.few, fewer t, t.loop-at-test.true)
 
 loop-less-2 : tie.Need-loop-at-smaller invariant_loop decreases_loop
 loop-less-2 c = omega (arith, c.loop-at-test.true)

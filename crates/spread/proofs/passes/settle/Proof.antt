@@ -38,7 +38,7 @@ aims c =
 
 least-sum-requires : tie.Need-least_sum-least-requires invariant_loop decreases_loop
 least-sum-requires c κs =
-    let t = c.before.before in
+    let t = c in
     (t.loop-len-test.true, can_look _ t.loop-len.invariant (aims t))
 
 mul-is-over : tie.Need-offset_bounds-costs-goal invariant_loop decreases_loop
@@ -65,7 +65,7 @@ add-pass c = omega (arith, c.least_sum-least.ensures.1)
 pass-requires : tie.Need-pass-len-requires invariant_loop decreases_loop
 pass-requires c κs =
     let l = c.least_sum-least.ensures.0 in
-    let t = c.before.before.before.before.before.before.before.before in
+    let t = c.before.before.before.before.before.before in
     record { s = _; here = t.loop-len.invariant; aims = aims t; place = l.place; place_in = l.place_in; low = omega (arith, l.there) }
 
 loop-less : tie.Need-loop-len-smaller invariant_loop decreases_loop

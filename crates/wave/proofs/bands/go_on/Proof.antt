@@ -42,28 +42,28 @@ scanned : (c : tie.After-scan-next invariant_loop decreases_loop) (s : ℕ) →
     let l = c in
     let e = l in
     OpenAt e.args.f e.args.map.now s e.args.costs.now e.args.work.now e.args.goal e.args.limit l.look-band.result.front
-    → ScannedAt e.args.f e.args.map.now s l.loop-more.band c.scan-next.new.1.1.0 c.scan-next.new.1.1.1.0 c.scan-next.result
+    → ScannedAt e.args.f e.args.map.now s l.loop-more.band c.scan-next.new.costs c.scan-next.new.work c.scan-next.result
 scanned c s x =
     let t = c.before.before.before in
     c.scan-next.ensures s (round_scan (t.loop-more.invariant.0 s x) (more t))
 
 look-requires-2 : tie.Need-look-band-requires-in-loop-more invariant_loop decreases_loop
 look-requires-2 c κs =
-    let n = c.before.before.before.before.before.before in
+    let n = c.before.before.before.before in
     let k = n.before.before.before.before.before in
     let e = k in
     can_look (scanned n _ (entered k)).between e.args.goal e.requires.here.inside
 
 loop-less : tie.Need-loop-more-smaller invariant_loop decreases_loop
 loop-less c =
-    let n = c.before.before.before.before.before.before.before in
+    let n = c.before.before.before.before.before in
     let t = n.before.before.before in
     let x = entered t.before.before in
     fewer_left (t.loop-more.invariant.0 _ x) (more t) (scanned n _ x) c.look-band-in-loop-more.ensures
 
 loop-again : tie.Need-loop-more-preserved invariant_loop decreases_loop
 loop-again c =
-    let n = c.before.before.before.before.before.before.before in
+    let n = c.before.before.before.before.before in
     let t = n.before.before.before in
     (λ s x. next_round (t.loop-more.invariant.0 s x) (more t) (scanned n s x) x.inside c.look-band-in-loop-more.ensures, refl)
 

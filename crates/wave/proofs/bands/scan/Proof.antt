@@ -56,8 +56,8 @@ loop-again c =
     let i = t.loop-at.invariant in (
       omega arith,
       (λ s x. v.visit-end.ensures s _ _ t.loop-at-test.true (i.1 s x)),
-      v.visit-end.auto.1.1.0 ∙ i.2,
-      v.visit-end.auto.1.1.1.0 ∙ i.3,
+      v.visit-end.auto.costs ∙ i.2,
+      v.visit-end.auto.work ∙ i.3,
     )
 
 sub-t14 : tie.Need-overflow_sub-result invariant_loop decreases_loop

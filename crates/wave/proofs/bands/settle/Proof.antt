@@ -16,11 +16,11 @@ begin-requires c κs =
 
 begun : (c : tie.After-begin-front) →
     let a = c.args in
-    OpenAt a.f a.map.now a.start c.begin-front.new.0 c.begin-front.new.1.0 a.goal a.limit c.begin-front.result
+    OpenAt a.f a.map.now a.start c.begin-front.new.costs c.begin-front.new.work a.goal a.limit c.begin-front.result
 begun c =
     let e = c in
     let p = e.requires in
-    begun_open e.args.f e.args.map.now p.0 p.1 (rw p.3 at c.begin-front.ensures) (c.begin-front.auto.1.0 ∙ p.4) e.args.goal e.args.limit p.2
+    begun_open e.args.f e.args.map.now p.0 p.1 (rw p.3 at c.begin-front.ensures) (c.begin-front.auto.work ∙ p.4) e.args.goal e.args.limit p.2
 
 go-on-requires : tie.Need-go_on-requires
 go-on-requires c κs = record { s = _; here = begun c.before.before.before.before.before.before }

@@ -48,8 +48,8 @@ loop-again c =
     let a = c.take_step-last in (
       omega arith,
       (λ s bound at stop other x. a.ensures s bound at stop other (i.1 s bound at stop other x)),
-      a.auto.1.1.0 ∙ i.2,
-      a.auto.1.1.1.0 ∙ i.3,
+      a.auto.costs ∙ i.2,
+      a.auto.work ∙ i.3,
     )
 
 same_length : tie.Need-shape_of-costs invariant_loop decreases_loop
