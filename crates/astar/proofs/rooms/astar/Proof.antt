@@ -19,7 +19,7 @@ abbrev lent : tie.Start → Rooms
 lent s = rooms s.args.costs.now s.args.work.now s.args.route.now
 
 abbrev start : tie.In-Passed → tie.Start
-start c = c.before.before.before.before.before.before.before
+start c = c.before.before.before.before.before.before
 
 passes : (c : tie.In-Passed) → let s = start c in screen (lent_lines s.args.f s.args.map.now s.args.start s.args.goal (lent s)) ≡ Passed
 passes c = sym c.screen_lengths-screen.ensures ∙ c.in-Passed.is

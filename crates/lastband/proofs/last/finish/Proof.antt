@@ -27,35 +27,35 @@ slice-read-cost c = search rules
 
 key-of-requires : tie.Need-key_of-requires
 key-of-requires c κs =
-    let s = start (front c.before) in
+    let s = start (front c) in
     omega (arith, s.requires.inside, few s.requires)
 
 count-before-requires : tie.Need-count_before-before-requires
 count-before-requires c κs =
-    let s = start (front c.before.before) in
+    let s = start (front c.before) in
     (listed s.requires, omega (arith, covers s.requires, few s.requires))
 
 -- the place that the code counts is the goal's
 counts : (c : tie.After-count_before-before) →
-    let s = start (front c.before.before.before) in
+    let s = start (front c.before.before) in
     s.args.band.front.settled + c.count_before-before.result ≡ goal_place s.requires c.if-len-eq0.false
 unfolding key
 counts c =
-    let s = start (front c.before.before.before) in
+    let s = start (front c.before.before) in
     let f = s.args.band.front in
     ap (λ (n : ℕ). f.settled + n)
     (c.count_before-before.ensures ∙ ap (key_below s.args.costs.now s.args.work.now f.from f.len) c.key_of.ensures)
 
 add-place : tie.Need-overflow_add-place
 add-place c =
-    let t = c.before.before.before in
+    let t = c.before.before in
     let s = start (front t) in
     omega (arith, counts c, place_small s.requires t.if-len-eq0.false t.if-cost-band.true)
 
 arrive-requires : tie.Need-arrive-requires
 arrive-requires c κs =
     let d = c.before.before.before in
-    let t = d.before.before.before in
+    let t = d.before.before in
     let s = start (front t) in
     let n = t.if-len-eq0.false in
     record {
@@ -75,7 +75,7 @@ returns-2 c =
     let a = c.before.before.before.before in
     let h = a.before.before.before in
     let d = h.before in
-    let t = d.before.before.before in
+    let t = d.before.before in
     let s = start (front t) in
     let n = t.if-len-eq0.false in
     finished_found s.requires n t.if-cost-band.true (counts d) (omega (arith, counts d, h.if-place-limit.true)) a.arrive.ensures
@@ -84,7 +84,7 @@ stop-at-limit-requires : tie.Need-stop_at_limit-requires
 stop-at-limit-requires c κs =
     let h = c.before in
     let d = h.before in
-    let t = d.before.before.before in
+    let t = d.before.before in
     let s = start (front t) in
     let n = t.if-len-eq0.false in
     can_stop s.requires n (omega (arith, counts d, h.if-place-limit.false, goal_before s.requires n t.if-cost-band.true))
@@ -97,7 +97,7 @@ returns-3 c =
     let a = c.before.before in
     let h = a.before.before in
     let d = h.before in
-    let t = d.before.before.before in
+    let t = d.before.before in
     let s = start (front t) in
     let n = t.if-len-eq0.false in
     finished_stopped s.requires n (λ b. omega (arith, counts d, h.if-place-limit.false)) a.stop_at_limit.ensures

@@ -15,7 +15,7 @@ use Rattle.routelog.proofs.writer.write_entry.Statement.{statement}
 use Rattle.routelog.proofs.writer.write_entry.Tie as tie
 
 abbrev start : tie.In-Passed → tie.Start
-start c = c.before.before.before.before.before.before
+start c = c.before.before.before.before.before
 
 passed : (c : tie.In-Passed) → screen (part_lines (start c).args.t2 (start c).args.directions.now) ≡ Passed
 passed c = sym c.judge_parts-judged.ensures ∙ c.in-Passed.is

@@ -22,7 +22,7 @@ abbrev lent : tie.Start → Rooms
 lent s = rooms s.args.costs.now s.args.work.now s.args.route.now
 
 abbrev start : tie.In-Passed → tie.Start
-start c = c.before.before.before.before.before.before.before
+start c = c.before.before.before.before.before.before
 
 passed : (c : tie.In-Passed) → screen (search_lines (start c).args.f (start c).args.map.now (asked (start c)) (lent (start c))) ≡ Passed
 passed c = sym c.screen_search-screen.ensures ∙ c.in-Passed.is
