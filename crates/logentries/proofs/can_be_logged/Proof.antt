@@ -21,10 +21,10 @@ returns-2 c = sym (greater_refusal _ c.numbers_in-numbers.ensures c.if-numbers-e
 sub-all-zero : tie.Need-slice_bounds-all_zero-count
 sub-all-zero c = search rules
 
-part-all-zero-start : tie.Need-slice-bounds-all-zero-start
+part-all-zero-start : tie.Need-slice_bounds-all_zero-start
 part-all-zero-start c = search rules
 
-part-all-zero-end : tie.Need-slice-bounds-all-zero-end
+part-all-zero-end : tie.Need-slice_bounds-all_zero-end
 part-all-zero-end c = search rules
 
 all-zero-requires : tie.Need-all_zero-requires
@@ -39,10 +39,10 @@ returns-3 c =
 sub-all-zero-2 : tie.Need-slice_bounds-all_zero-count-2
 sub-all-zero-2 c = search rules
 
-part-all-zero-start-2 : tie.Need-slice-bounds-all-zero-start-2
+part-all-zero-start-2 : tie.Need-slice_bounds-all_zero-start-2
 part-all-zero-start-2 c = search rules
 
-part-all-zero-end-2 : tie.Need-slice-bounds-all-zero-end-2
+part-all-zero-end-2 : tie.Need-slice_bounds-all_zero-end-2
 part-all-zero-end-2 c = search rules
 
 all-zero-requires-2 : tie.Need-all_zero-requires-2
@@ -51,10 +51,10 @@ all-zero-requires-2 c κs = search rules
 sub-all-zero-3 : tie.Need-slice_bounds-all_zero-count-then-all_zero
 sub-all-zero-3 c = search rules
 
-part-all-zero-start-3 : tie.Need-slice-bounds-all-zero-start-3
+part-all-zero-start-3 : tie.Need-slice_bounds-all_zero-start-then-all_zero
 part-all-zero-start-3 c = search rules
 
-part-all-zero-end-3 : tie.Need-slice-bounds-all-zero-end-3
+part-all-zero-end-3 : tie.Need-slice_bounds-all_zero-end-then-all_zero
 part-all-zero-end-3 c = search rules
 
 all-zero-requires-3 : tie.Need-all_zero-requires-then-all_zero

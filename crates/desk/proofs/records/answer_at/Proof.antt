@@ -13,10 +13,10 @@ add-end c = search rules
 sub-ask : tie.Need-slice_bounds-ask-count
 sub-ask c = search rules
 
-part-ask-start : tie.Need-slice-bounds-ask-start
+part-ask-start : tie.Need-slice_bounds-ask-start
 part-ask-start c = search rules
 
-part-ask-end : tie.Need-slice-bounds-ask-end
+part-ask-end : tie.Need-slice_bounds-ask-end
 part-ask-end c = search rules
 
 ask-requires : tie.Need-ask-answer-requires

@@ -11,10 +11,10 @@ use Rattle.desk.proofs.records.ask.Tie as tie
 sub-all-zero : tie.Need-slice_bounds-all_zero-count
 sub-all-zero c = search rules
 
-part-all-zero-start : tie.Need-slice-bounds-all-zero-start
+part-all-zero-start : tie.Need-slice_bounds-all_zero-start
 part-all-zero-start c = search rules
 
-part-all-zero-end : tie.Need-slice-bounds-all-zero-end
+part-all-zero-end : tie.Need-slice_bounds-all_zero-end
 part-all-zero-end c = search rules
 
 all-zero-requires : tie.Need-all_zero-requires

@@ -10,10 +10,10 @@ least-requires c κs = search rules
 sub-answer-records : tie.Need-slice_bounds-answer_records-count
 sub-answer-records c = search rules
 
-part-answer-records-start : tie.Need-slice-bounds-answer-records-start
+part-answer-records-start : tie.Need-slice_bounds-answer_records-start
 part-answer-records-start c = search rules
 
-part-answer-records-end : tie.Need-slice-bounds-answer-records-end
+part-answer-records-end : tie.Need-slice_bounds-answer_records-end
 part-answer-records-end c = search rules
 
 answer-records-requires : tie.Need-answer_records-requires

@@ -20,11 +20,11 @@ numbers-of-requires : tie.Need-numbers_of-requires
 numbers-of-requires c κs = search rules
 
 record-for-requires : tie.Need-record_for-requires
-record-for-requires c κs = rw c.Numbers-of.ensures (record { kind = small_kind c.args.answer; refusal = c.requires })
+record-for-requires c κs = rw c.numbers_of.ensures (record { kind = small_kind c.args.answer; refusal = c.requires })
 
 returns : tie.Need-returns
 unfolding record_of
-returns c = c.record_for.ensures ∙ ap record_for c.Numbers-of.ensures
+returns c = c.record_for.ensures ∙ ap record_for c.numbers_of.ensures
 
 pub record_of_spec : {M : Type 1} → statement M
 record_of_spec = tie.close (tie.spec numbers-of-requires record-for-requires returns)

@@ -39,10 +39,10 @@ numbers-in-requires c κs = search rules
 sub-judge-route : tie.Need-slice_bounds-judge_route-count
 sub-judge-route c = search rules
 
-part-judge-route-start : tie.Need-slice-bounds-judge-route-start
+part-judge-route-start : tie.Need-slice_bounds-judge_route-start
 part-judge-route-start c = search rules
 
-part-judge-route-end : tie.Need-slice-bounds-judge-route-end
+part-judge-route-end : tie.Need-slice_bounds-judge_route-end
 part-judge-route-end c = search rules
 
 abbrev start : tie.After-can_be_logged → tie.Start

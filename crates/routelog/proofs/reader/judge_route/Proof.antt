@@ -46,10 +46,10 @@ returns c =
 sub-all-within : tie.Need-slice_bounds-all_within-count
 sub-all-within c = search rules
 
-part-all-within-start : tie.Need-slice-bounds-all-within-start
+part-all-within-start : tie.Need-slice_bounds-all_within-start
 part-all-within-start c = search rules
 
-part-all-within-end : tie.Need-slice-bounds-all-within-end
+part-all-within-end : tie.Need-slice_bounds-all_within-end
 part-all-within-end c = omega (arith, size_holds c.args.length, long c)
 
 all-within-requires : tie.Need-all_within-requires
@@ -58,10 +58,10 @@ all-within-requires c κs = search rules
 sub-all-within-2 : tie.Need-slice_bounds-all_within-count-then-all_within
 sub-all-within-2 c = omega (arith, size_holds c.args.length, c.route_size-size.ensures)
 
-part-all-within-start-2 : tie.Need-slice-bounds-all-within-start-2
+part-all-within-start-2 : tie.Need-slice_bounds-all_within-start-then-all_within
 part-all-within-start-2 c = omega (arith, size_holds c.args.length, c.route_size-size.ensures)
 
-part-all-within-end-2 : tie.Need-slice-bounds-all-within-end-2
+part-all-within-end-2 : tie.Need-slice_bounds-all_within-end-then-all_within
 part-all-within-end-2 c = search rules
 
 all-within-requires-2 : tie.Need-all_within-requires-then-all_within
