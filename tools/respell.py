@@ -27,7 +27,7 @@ def antt_files():
 
 
 def is_proof(path):
-    return path.endswith(("/Proof.antt", "/Answers.antt", "/Invariants.antt"))
+    return path.endswith("/Proof.antt")
 
 
 def own_names(files):

@@ -117,11 +117,11 @@ module _ (a : List ℕ) (logged : T (can_be_logged a)) where
   steps_of = ⊎_elim inl (λ none. inr (eqb→eq (steps_in a) 0 (T_and (eqb (steps_in a) 0) (eqb (answer_in a).p 0 && eqb (answer_in a).q 0) none).0)) routes_of
 
 -- R-6's words: what makes an answer one that can't be logged
-pub last-byte-wrong : (a : List ℕ) (i : ℕ) → get_or a (24 + i) 0 ≢ 0 → can_be_logged a ≡ false
-last-byte-wrong a i n = not_T_false (can_be_logged a) (λ t. n (last_zeros a t i))
+pub last_byte_wrong : (a : List ℕ) (i : ℕ) → get_or a (24 + i) 0 ≢ 0 → can_be_logged a ≡ false
+last_byte_wrong a i n = not_T_false (can_be_logged a) (λ t. n (last_zeros a t i))
 
-pub sums-wrong : (a : List ℕ) → (answer_in a).kind ≢ 1 → ((answer_in a).p ≢ 0) ⊎ ((answer_in a).q ≢ 0) → can_be_logged a ≡ false
-sums-wrong a other wrong =
+pub sums_wrong : (a : List ℕ) → (answer_in a).kind ≢ 1 → ((answer_in a).p ≢ 0) ⊎ ((answer_in a).q ≢ 0) → can_be_logged a ≡ false
+sums_wrong a other wrong =
     not_T_false (can_be_logged a)
     (λ t.
     ⊎_elim (λ found. other found.0)
@@ -131,12 +131,12 @@ sums-wrong a other wrong =
     (routes_of a t))
 
 -- "P and Q aren't tested against the cost"
-pub sums-untested : (s c : ℕ) (l k : RouteLength) → l.steps ≡ k.steps → can_be_logged (record_of (Found s c l)) ≡ can_be_logged (record_of (Found s c k))
+pub sums_untested : (s c : ℕ) (l k : RouteLength) → l.steps ≡ k.steps → can_be_logged (record_of (Found s c l)) ≡ can_be_logged (record_of (Found s c k))
 unfolding record_of answer_in can_be_logged kind_fits
-sums-untested s c l k e = rw e
+sums_untested s c l k e = rw e
 
-pub steps-few : (a : List ℕ) → T (can_be_logged a) → steps_in a ≤ greatest_length
-steps-few a t = ⊎_elim (λ found. found.1) (λ none. omega arith) (steps_of a t)
+pub steps_few : (a : List ℕ) → T (can_be_logged a) → steps_in a ≤ greatest_length
+steps_few a t = ⊎_elim (λ found. found.1) (λ none. omega arith) (steps_of a t)
 
 -- any count of directions but 0 is wrong if the answer is not found
 pub no_steps : (a : List ℕ) → T (can_be_logged a) → (answer_in a).kind ≢ 1 → steps_in a ≡ 0

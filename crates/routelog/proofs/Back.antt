@@ -12,7 +12,7 @@ use Rattle.paths.proofs.Bools.{T_and}
 use Rattle.recordlayout.specs.Record.{record_size}
 use Rattle.logentries.specs.Entry.{Entry, entry_of, route_size, filler, route_bytes, entry_bytes, greatest_length, steps_in, all_filler, IsEntry}
 use Rattle.routelog.specs.Reading.{question_at, answer_at, route_at, entry_at, entry, reading_of}
-use Rattle.logentries.proofs.Answers.{steps-few}
+use Rattle.logentries.proofs.Answers.{steps_few}
 use Rattle.logentries.proofs.Sizes.{size_holds}
 use Rattle.routelog.proofs.Passing.{Passes, pass}
 use Rattle.routelog.proofs.Taking.{reading_judged}
@@ -45,7 +45,7 @@ same_entry q a ds = rw (q, a, ds)
 
 -- a room of 4,095 holds the route of every entry
 pub entry_few : {e : Entry} → IsEntry e → length e.route ≤ greatest_length
-entry_few {e} k = omega (arith, k.count, steps-few e.answer k.answer_fits)
+entry_few {e} k = omega (arith, k.count, steps_few e.answer k.answer_fits)
 
 abbrev pub filler_after : List ℕ → List ℕ
 filler_after ds = replicate (route_size (length ds) - length ds) filler

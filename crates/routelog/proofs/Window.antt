@@ -17,7 +17,7 @@ use Rattle.recordlayout.specs.Record.{record_size}
 use Rattle.routelog.specs.declared.EntryRead.{EntryRead}
 use Rattle.logentries.specs.Entry.{route_size, greatest_length, can_be_logged, steps_in}
 use Rattle.routelog.specs.Reading.{answer_at, route_at, entry_at, route_lines, read_lines, refused, entry, after_lines, reading_of, greatest_entry, IsRead}
-use Rattle.logentries.proofs.Answers.{steps-few}
+use Rattle.logentries.proofs.Answers.{steps_few}
 use Rattle.logentries.proofs.Sizes.{size_holds, sizes_rise}
 use Rattle.routelog.proofs.Judging.{head_ends, wrong_answer, by_route, route_ends}
 use Rattle.routelog.proofs.Passing.{passes}
@@ -92,7 +92,7 @@ window_reads rest room n h = elim (dec_lt n (length rest)) [
 ]
   where
     few : (piece : List ℕ) → can_be_logged (answer_at piece) ≡ true → route_size (steps_in (answer_at piece)) ≤ route_size greatest_length
-    few piece e = sizes_rise (steps_in (answer_at piece)) greatest_length (steps-few (answer_at piece) (true_T (can_be_logged (answer_at piece)) e))
+    few piece e = sizes_rise (steps_in (answer_at piece)) greatest_length (steps_few (answer_at piece) (true_T (can_be_logged (answer_at piece)) e))
 
 -- so the reader may be lent a window of the file
 pub window_read : (rest room : List ℕ) (n : ℕ) {r : EntryRead} {room' : List ℕ} → greatest_entry ≤ n → IsRead (take n rest) room r room' → IsRead rest room r room'

@@ -19,7 +19,7 @@ use Rattle.routelog.specs.declared.EntryWritten.{EntryWritten}
 use Rattle.routelog.specs.declared.EntryWritten.TheVariants.{Length}
 use Rattle.logentries.specs.Entry.{Entry, entry_bytes, greatest_length, can_be_logged, steps_in, all_directions}
 use Rattle.routelog.specs.Writing.{part_lines, write_lines, IsWritten}
-use Rattle.logentries.proofs.Answers.{steps-few}
+use Rattle.logentries.proofs.Answers.{steps_few}
 
 module _ (a ds : List ℕ) where
   pub answer_wrong : can_be_logged a ≡ false → screen (part_lines a ds) ≡ Refused 62 0
@@ -50,7 +50,7 @@ parts_known a ds e =
     record { logged = T_not-not (can_be_logged a) none.0; count = eqb→eq (length ds) (steps_in a) both.0; directions = both.1 }
 
 pub directions_few : {a ds : List ℕ} → PartsPass a ds → length ds ≤ greatest_length
-directions_few {a} p = omega (arith, p.count, steps-few a p.logged)
+directions_few {a} p = omega (arith, p.count, steps_few a p.logged)
 
 -- the room's line comes after those of answer and directions
 module _ (e : Entry) (size : ℕ) where

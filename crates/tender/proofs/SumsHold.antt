@@ -21,7 +21,7 @@ use Rattle.search.specs.Search.{Searched}
 use Rattle.astar.specs.Astar.{Aimed}
 use Rattle.recordlayout.specs.Record.{record_for, answer_in}
 use Rattle.recordlayout.proofs.Records.{number_back}
-use Rattle.logentries.proofs.Answers.{last-byte-wrong, sums-wrong, sums-untested}
+use Rattle.logentries.proofs.Answers.{last_byte_wrong, sums_wrong, sums_untested}
 use Rattle.tender.specs.BothCells.{Bounded}
 use Rattle.tender.specs.ThirdCondition.{twice_square, Measured}
 use Rattle.tender.specs.Sums.{SumsTell, TwoSums}
@@ -104,7 +104,7 @@ two_sums = record {
       rw y.1 (record_tells y.0 y.2.1);
   astar = λ f m start goal r a r' x. of_astar x;
   astar_call = λ f m start goal r n r' x. rw x.numbers (of_astar x.aimed);
-  eight_zeros = λ a i h n. last-byte-wrong a i n;
-  no_sums = sums-wrong;
-  untested = sums-untested;
+  eight_zeros = λ a i h n. last_byte_wrong a i n;
+  no_sums = sums_wrong;
+  untested = sums_untested;
 }

@@ -10,7 +10,7 @@ use Rattle.answering.specs.declared.AnswerNumbers.{AnswerNumbers}
 use Rattle.recordlayout.specs.Record.{record_size, answer_in}
 use Rattle.logentries.specs.Entry.{can_be_logged, steps_in}
 use Rattle.routelog.specs.Reading.{answer_at}
-use Rattle.logentries.proofs.Answers.{steps-few}
+use Rattle.logentries.proofs.Answers.{steps_few}
 use Rattle.routelog.proofs.Judging.{head_ends, wrong_answer, by_route}
 use Rattle.routelog.proofs.reader.judge_entry.Statement.{statement}
 use Rattle.routelog.proofs.reader.judge_entry.Tie as tie
@@ -60,7 +60,7 @@ steps : (c : tie.After-numbers_in-numbers) → c.numbers_in-numbers.result.lengt
 steps c = let d = c in ap (λ (n : AnswerNumbers). n.length) (c.numbers_in-numbers.ensures ∙ ap answer_in d.record_at-answer.ensures)
 
 judge-route-requires : tie.Need-judge_route-requires
-judge-route-requires c κs = omega (arith, steps c.before, steps-few _ (true_T _ (logged c.before.before.before)))
+judge-route-requires c κs = omega (arith, steps c.before, steps_few _ (true_T _ (logged c.before.before.before)))
 
 returns-2 : tie.Need-returns-then-can_be_logged
 returns-2 c =

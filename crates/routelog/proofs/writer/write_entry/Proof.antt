@@ -17,17 +17,17 @@ use Rattle.routelog.proofs.writer.write_entry.Tie as tie
 abbrev start : tie.In-Passed → tie.Start
 start c = c.before.before.before.before.before
 
-passed : (c : tie.In-Passed) → screen (part_lines (start c).args.t2 (start c).args.directions.now) ≡ Passed
+passed : (c : tie.In-Passed) → screen (part_lines (start c).args.answer (start c).args.directions.now) ≡ Passed
 passed c = sym c.judge_parts-judged.ensures ∙ c.in-Passed.is
 
-known : (c : tie.In-Passed) → PartsPass (start c).args.t2 (start c).args.directions.now
+known : (c : tie.In-Passed) → PartsPass (start c).args.answer (start c).args.directions.now
 known c = parts_known _ _ (passed c)
 
 -- what was added up is the entry's length
 size : (c : tie.After-route_size) →
     let s = (start c.before).args in
-    length (entry_bytes (entry_of s.t1 s.t2 s.directions.now)) ≡ record_size + record_size + c.route_size.result
-size c = let s = (start c.before).args in omega (arith, entry_length (entry_of s.t1 s.t2 s.directions.now), c.route_size.ensures)
+    length (entry_bytes (entry_of s.question s.answer s.directions.now)) ≡ record_size + record_size + c.route_size.result
+size c = let s = (start c.before).args in omega (arith, entry_length (entry_of s.question s.answer s.directions.now), c.route_size.ensures)
 
 slice-aggregate-judge-parts : tie.Need-slice_bounds-judge_parts-end
 slice-aggregate-judge-parts c = search rules
