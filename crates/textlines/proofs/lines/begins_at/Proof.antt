@@ -7,10 +7,10 @@ use Rattle.textlines.proofs.lines.begins_at.Tie as tie
 sub-begins : tie.Need-slice_bounds-begins-count
 sub-begins c = search rules
 
-part-begins-start : tie.Need-slice-bounds-begins-start
+part-begins-start : tie.Need-slice_bounds-begins-start
 part-begins-start c = search rules
 
-part-begins-end : tie.Need-slice-bounds-begins-end
+part-begins-end : tie.Need-slice_bounds-begins-end
 part-begins-end c = search rules
 
 begins-requires : tie.Need-begins-requires

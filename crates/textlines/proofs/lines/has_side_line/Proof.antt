@@ -25,21 +25,20 @@ put-side-line-requires c κs =
 sub-line : tie.Need-slice_bounds-line-count
 sub-line c = search rules
 
-part-line-start : tie.Need-slice-bounds-line-start
+part-line-start : tie.Need-slice_bounds-line-start
 part-line-start c = search rules
 
-part-line-end : tie.Need-slice-bounds-line-end
+part-line-end : tie.Need-slice_bounds-line-end
 part-line-end c =
-    omega (arith, fits c.before.before.before.before.before.before, c.put_side_line-end.ensures.next, c.put_side_line-end.auto)
+    omega (arith, fits c.before.before.before.before.before, c.put_side_line-end.ensures.next, c.put_side_line-end.auto)
 
 begins-requires : tie.Need-begins-requires
 begins-requires c κs = search rules
 
 returns : tie.Need-returns
 returns c =
-    let p = c.before.before.before.before in
-    let s = p.before.before.before.before in
-    c.begins.ensures ∙ ap (λ (line : List ℕ). begins line s.args.text.now) (put_first p.put_side_line-end.ensures (fits s))
+    let s = c.before.before.before.before.before.before.before in
+    c.begins.ensures ∙ ap (λ (line : List ℕ). begins line s.args.text.now) (put_first c.put_side_line-end.ensures (fits s))
 
 pub has_side_line_spec : {M : Type 1} → statement M
 has_side_line_spec =

@@ -17,9 +17,6 @@ put-digits-requires c κs =
     let s = c in
     (s.requires.0, s.requires.1, omega (arith, simp length-append at s.requires.2))
 
-slice-aggregate-put : tie.Need-slice-aggregate-put
-slice-aggregate-put c = search rules
-
 put-requires-2 : tie.Need-put-requires
 unfolding side_line
 put-requires-2 c κs =
@@ -43,7 +40,6 @@ put_side_line_spec =
     (tie.spec
     put-requires
     put-digits-requires
-    slice-aggregate-put
     put-requires-2
     same_length
     returns)

@@ -7,10 +7,10 @@ use Rattle.textlines.proofs.lines.side_at.Tie as tie
 sub-side-in : tie.Need-slice_bounds-side_in-count
 sub-side-in c = search rules
 
-part-side-in-start : tie.Need-slice-bounds-side-in-start
+part-side-in-start : tie.Need-slice_bounds-side_in-start
 part-side-in-start c = search rules
 
-part-side-in-end : tie.Need-slice-bounds-side-in-end
+part-side-in-end : tie.Need-slice_bounds-side_in-end
 part-side-in-end c = search rules
 
 side-in-requires : tie.Need-side_in-requires
