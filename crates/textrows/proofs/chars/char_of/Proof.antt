@@ -22,7 +22,7 @@ returns-2 : tie.Need-returns-in-1
 returns-2 c = search rules
 
 returns-3 : tie.Need-returns-in_default
-returns-3 c = digit c.args.weight (omega (arith, c.in_default.rest))
+returns-3 c = digit c.args.weight (omega arith)
 
 pub char_of_spec : {M : Type 1} → statement M
 char_of_spec = tie.close (tie.spec add-result returns returns-2 returns-3)

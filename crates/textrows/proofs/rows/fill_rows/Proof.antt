@@ -19,10 +19,10 @@ loop-holds c = record { in_text = omega arith; in_room = omega arith; same = ref
 sub-fill-row : tie.Need-slice_bounds-fill_row-count invariant_loop decreases_loop
 sub-fill-row c = omega arith
 
-part-fill-row-start : tie.Need-slice-bounds-fill-row-start invariant_loop decreases_loop
+part-fill-row-start : tie.Need-slice_bounds-fill_row-start invariant_loop decreases_loop
 part-fill-row-start c = omega arith
 
-part-fill-row-end : tie.Need-slice-bounds-fill-row-end invariant_loop decreases_loop
+part-fill-row-end : tie.Need-slice_bounds-fill_row-end invariant_loop decreases_loop
 part-fill-row-end c = omega arith
 
 fill-row-requires : tie.Need-fill_row-requires invariant_loop decreases_loop
@@ -31,17 +31,14 @@ fill-row-requires c κs =
     let text = l.args.text.now in
     (rw (part_to_end text l.loop-left.at) (omega (arith, length-drop l.loop-left.at text, row_in_text l.loop-left.invariant (omega arith))), row_in_room l.loop-left.invariant (omega arith))
 
-abbrev at_loop : tie.After-slice_known-in-loop-left-1 invariant_loop decreases_loop → tie.At-loop-left invariant_loop decreases_loop
-at_loop c = c.before.before.before.before.before.before
-
 add_at : tie.Need-overflow_add-at invariant_loop decreases_loop
-add_at c = omega (arith, row_in_text (at_loop c).loop-left.invariant (omega arith))
+add_at c = omega (arith, row_in_text c.loop-left.invariant (omega arith))
 
 add-at-2 : tie.Need-overflow_add-at-in-loop-left invariant_loop decreases_loop
-add-at-2 c = omega (arith, row_in_text (at_loop c).loop-left.invariant (omega arith))
+add-at-2 c = omega (arith, row_in_text c.loop-left.invariant (omega arith))
 
 add-to : tie.Need-overflow_add-to invariant_loop decreases_loop
-add-to c = omega (arith, row_in_room (at_loop c).loop-left.invariant (omega arith))
+add-to c = omega (arith, row_in_room c.loop-left.invariant (omega arith))
 
 sub-left : tie.Need-overflow_sub-left invariant_loop decreases_loop
 sub-left c = omega arith
@@ -51,9 +48,8 @@ loop-less c = omega arith
 
 loop-again : tie.Need-loop-left-preserved invariant_loop decreases_loop
 loop-again c =
-    let l = at_loop c in
-    let text = l.before.before.before.args.text.now in
-    filling_next l.loop.inv (omega arith) (rw (part_to_end text l.loop.at) at c.fill_row.ensures)
+    let text = c.args.text.now in
+    filling_next c.loop-left.invariant (omega arith) (rw (part_to_end text c.loop-left.at) at c.fill_row.ensures)
 
 same_length : tie.Need-shape_of-cells invariant_loop decreases_loop
 same_length c = c.loop-left.invariant.same

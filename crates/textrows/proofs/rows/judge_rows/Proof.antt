@@ -25,10 +25,10 @@ loop-holds c = (omega arith, refl)
 sub-judge-row : tie.Need-slice_bounds-judge_row-count invariant_loop decreases_loop
 sub-judge-row c = omega arith
 
-part-judge-row-start : tie.Need-slice-bounds-judge-row-start invariant_loop decreases_loop
+part-judge-row-start : tie.Need-slice_bounds-judge_row-start invariant_loop decreases_loop
 part-judge-row-start c = omega arith
 
-part-judge-row-end : tie.Need-slice-bounds-judge-row-end invariant_loop decreases_loop
+part-judge-row-end : tie.Need-slice_bounds-judge_row-end invariant_loop decreases_loop
 part-judge-row-end c = omega arith
 
 judge-row-requires : tie.Need-judge_row-found-requires invariant_loop decreases_loop
@@ -91,13 +91,13 @@ returns-2 : tie.Need-returns-then-at-text invariant_loop decreases_loop
 returns-2 c =
     let l = c in
     let none_left : l.loop-left.left ≡ 0 = omega arith in
-    sym (l.loop-left.invariant.1 ∙ rw none_left (further_byte _ l.loop-left.at _ c.if-at-text.true))
+    sym (l.loop-left.invariant.1 ∙ rw none_left (further_byte l.args.width l.loop-left.at _ c.if-at-text.true))
 
 returns-3 : tie.Need-returns invariant_loop decreases_loop
 returns-3 c =
     let l = c in
     let none_left : l.loop-left.left ≡ 0 = omega arith in
-    sym (l.loop-left.invariant.1 ∙ rw none_left (text_ends _ l.loop-left.at _ c.if-at-text.false))
+    sym (l.loop-left.invariant.1 ∙ rw none_left (text_ends l.args.width l.loop-left.at _ c.if-at-text.false))
 
 pub judge_rows_spec : {M : Type 1} → statement M
 judge_rows_spec =

@@ -46,7 +46,7 @@ loop-again c =
     let cells = s.args.cells.now in
     let size = mapped_length char_of width cells s.requires.1 in
     let char = map_at_lem char_of (take width cells) l.loop-x.x (omega (arith, length-take-le width cells s.requires.1)) in
-    putting_next l.loop-x.invariant (omega arith) (c.Char-of.ensures ∙ rw (get_or-take width cells l.loop-x.x 0 (omega arith)) at char)
+    putting_next l.loop-x.invariant (omega arith) (c.char_of.ensures ∙ rw (get_or-take width cells l.loop-x.x 0 (omega arith)) at char)
 
 add-result : tie.Need-overflow_add-result invariant_loop decreases_loop
 add-result c =

@@ -10,9 +10,6 @@ use Rattle.textrows.proofs.rows.put_row.Tie as tie
 put-cells-requires : tie.Need-put_cells-end-requires
 put-cells-requires c κs = search rules
 
-slice-aggregate-put : tie.Need-slice-aggregate-put
-slice-aggregate-put c = search rules
-
 put-requires : tie.Need-put-requires
 put-requires c κs =
     let s = c in
@@ -28,4 +25,4 @@ returns c =
 
 pub put_row_spec : {M : Type 1} → statement M
 put_row_spec =
-    tie.close (tie.spec put-cells-requires slice-aggregate-put put-requires same_length returns)
+    tie.close (tie.spec put-cells-requires put-requires same_length returns)

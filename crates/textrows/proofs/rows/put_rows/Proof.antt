@@ -20,10 +20,10 @@ loop-holds c = record { in_map = omega arith; in_room = omega arith; same = refl
 sub-put-row : tie.Need-slice_bounds-put_row-count invariant_loop decreases_loop
 sub-put-row c = omega arith
 
-part-put-row-start : tie.Need-slice-bounds-put-row-start invariant_loop decreases_loop
+part-put-row-start : tie.Need-slice_bounds-put_row-start invariant_loop decreases_loop
 part-put-row-start c = omega arith
 
-part-put-row-end : tie.Need-slice-bounds-put-row-end invariant_loop decreases_loop
+part-put-row-end : tie.Need-slice_bounds-put_row-end invariant_loop decreases_loop
 part-put-row-end c = omega arith
 
 put-row-requires : tie.Need-put_row-next-requires invariant_loop decreases_loop
@@ -35,11 +35,8 @@ put-row-requires c κs =
     rw (part_to_end map l.loop-left.from)
     (λ v. rw (get_or-drop l.loop-left.from map v 0) (s.requires.0 _), omega (arith, length-drop l.loop-left.from map), text_row_in_room l.loop-left.invariant (omega arith))
 
-abbrev at_loop : tie.After-slice_known-in-loop-left-1 invariant_loop decreases_loop → tie.At-loop-left invariant_loop decreases_loop
-at_loop c = c.before.before.before.before.before.before
-
 add-from : tie.Need-overflow_add-from invariant_loop decreases_loop
-add-from c = omega (arith, row_in_map (at_loop c).loop-left.invariant (omega arith))
+add-from c = omega (arith, row_in_map c.loop-left.invariant (omega arith))
 
 sub-left : tie.Need-overflow_sub-left invariant_loop decreases_loop
 sub-left c = omega arith
@@ -49,9 +46,8 @@ loop-less c = omega arith
 
 loop-again : tie.Need-loop-left-preserved invariant_loop decreases_loop
 loop-again c =
-    let l = at_loop c in
-    let map = l.before.before.before.args.map.now in
-    putting_next_row l.loop.inv (omega arith) (rw (part_to_end map l.loop.from) at c.put_row-next.ensures)
+    let map = c.args.map.now in
+    putting_next_row c.loop-left.invariant (omega arith) (rw (part_to_end map c.loop-left.from) at c.put_row-next.ensures)
 
 same_length : tie.Need-shape_of-room invariant_loop decreases_loop
 same_length c = c.loop-left.invariant.same
