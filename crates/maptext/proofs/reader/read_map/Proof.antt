@@ -23,7 +23,7 @@ returns : tie.Need-returns-in_default
 returns c = left_refused _ _ _ _ c.in_default.is c.judge_map-judged.ensures
 
 abbrev start : tie.In-Map → tie.Start
-start c = c.before.before.before.before.before.before
+start c = c.before.before.before.before
 
 is_map : (c : tie.In-Map) → HasMap (start c).args.text.now (length (start c).args.cells.now) c.in-Map.f
 is_map c = has_map _ _ _ c.in-Map.is c.judge_map-judged.ensures

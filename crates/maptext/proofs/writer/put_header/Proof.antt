@@ -7,32 +7,20 @@ use Rattle.maptext.proofs.Lengths.{header_length}
 use Rattle.maptext.proofs.writer.put_header.Statement.{statement}
 use Rattle.maptext.proofs.writer.put_header.Tie as tie
 
-slice-aggregate-put : tie.Need-slice-aggregate-put
-slice-aggregate-put c = search rules
-
 put-requires : tie.Need-put-height_at-requires
 put-requires c κs =
     let s = c in
     omega (arith, header_length s.args.width s.args.height, s.requires.4)
-
-slice-aggregate-put-side-line : tie.Need-slice-aggregate-put-side-line
-slice-aggregate-put-side-line c = search rules
 
 put-side-line-requires : tie.Need-put_side_line-width_at-requires
 put-side-line-requires c κs =
     let s = c in
     (s.requires.2, s.requires.3, omega (arith, header_length s.args.width s.args.height, s.requires.4))
 
-slice-aggregate-put-side-line-2 : tie.Need-slice-aggregate-put-side-line-2
-slice-aggregate-put-side-line-2 c = search rules
-
 put-side-line-requires-2 : tie.Need-put_side_line-map_at-requires
 put-side-line-requires-2 c κs =
     let s = c in
     (s.requires.0, s.requires.1, omega (arith, header_length s.args.width s.args.height, s.requires.4))
-
-slice-aggregate-put-2 : tie.Need-slice-aggregate-put-2
-slice-aggregate-put-2 c = search rules
 
 put-requires-2 : tie.Need-put-requires
 put-requires-2 c κs =
@@ -55,13 +43,9 @@ pub put_header_spec : {M : Type 1} → statement M
 put_header_spec =
     tie.close
     (tie.spec
-    slice-aggregate-put
     put-requires
-    slice-aggregate-put-side-line
     put-side-line-requires
-    slice-aggregate-put-side-line-2
     put-side-line-requires-2
-    slice-aggregate-put-2
     put-requires-2
     same_length
     returns)

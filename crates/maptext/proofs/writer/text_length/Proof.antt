@@ -9,9 +9,6 @@ use Rattle.maptext.proofs.Lengths.{header_length}
 use Rattle.maptext.proofs.writer.text_length.Statement.{statement}
 use Rattle.maptext.proofs.writer.text_length.Tie as tie
 
-slice-aggregate-side-line-length : tie.Need-slice-aggregate-side-line-length
-slice-aggregate-side-line-length c = search rules
-
 side-line-length-requires : tie.Need-side_line_length-requires
 side-line-length-requires c κs = search rules
 
@@ -23,9 +20,6 @@ height_line c =
 add-head : tie.Need-overflow_add-head
 add-head c = omega (arith, height_line c)
 
-slice-aggregate-side-line-length-2 : tie.Need-slice-aggregate-side-line-length-2
-slice-aggregate-side-line-length-2 c = search rules
-
 side-line-length-requires-2 : tie.Need-side_line_length-requires-2
 side-line-length-requires-2 c κs = search rules
 
@@ -35,10 +29,10 @@ width_line c =
     omega (arith, short_line width_word s.args.width (omega arith) s.requires.0 s.requires.1)
 
 add-head-2 : tie.Need-overflow_add-head-2
-add-head-2 c = omega (arith, height_line c.before.before, width_line c)
+add-head-2 c = omega (arith, height_line c.before.before.before, width_line c)
 
 add-head-3 : tie.Need-overflow_add-head-3
-add-head-3 c = omega (arith, height_line c.before.before, width_line c)
+add-head-3 c = omega (arith, height_line c.before.before.before, width_line c)
 
 add-result : tie.Need-overflow_add-result
 add-result c = search rules
@@ -49,7 +43,7 @@ mul-result c = let s = c in omega (arith, mul-le-mul s.requires.3 s.requires.1)
 add-result-2 : tie.Need-overflow_add-result-2
 add-result-2 c =
     let s = c in
-    omega (arith, height_line c.before.before, width_line c, mul-le-mul s.requires.3 s.requires.1)
+    omega (arith, height_line c.before.before.before, width_line c, mul-le-mul s.requires.3 s.requires.1)
 
 returns : tie.Need-returns
 returns c =
@@ -60,10 +54,8 @@ pub text_length_spec : {M : Type 1} → statement M
 text_length_spec =
     tie.close
     (tie.spec
-    slice-aggregate-side-line-length
     side-line-length-requires
     add-head
-    slice-aggregate-side-line-length-2
     side-line-length-requires-2
     add-head-2
     add-head-3
