@@ -25,7 +25,7 @@ returns-2 : tie.Need-returns-in_default
 returns-2 c = reader_refuses _ _ c.if-text-gt-GREATEST_TEXT.false _ _ c.in_default.is c.judge_map-judged.ensures
 
 abbrev start : tie.In-Map → tie.Start
-start c = c.before.before.before.before.before.before.before
+start c = c.before.before.before.before.before
 
 short : (c : tie.In-Map) → length (start c).args.text.now ≤ greatest_text
 short c = omega arith
