@@ -35,7 +35,7 @@ returns : tie.Need-returns
 returns c =
     let a = c in
     let l = a in
-    arrived_answered l.least-arrived.ensures a.answer_records.auto.buffer a.answer_records.ensures
+    arrived_answered l.least-arrived.ensures a.answer_records.auto.records a.answer_records.ensures
 
 pub answer_arrived_spec : {M : Type 1} → statement M
 answer_arrived_spec =
