@@ -122,7 +122,7 @@ def without_rt(folder):
     """A PATH that has what tools/start needs, and no rt."""
     needed = Path(folder, "bare")
     needed.mkdir()
-    for name in ("bash", "dirname", "readlink", "uname"):
+    for name in ("bash", "dirname", "readlink"):
         (needed / name).symlink_to(shutil.which(name))
     return {"PATH": str(needed)}
 
@@ -130,13 +130,11 @@ def without_rt(folder):
 def with_programs(folder, name, script):
     """A kit whose loader is a script; in it $real starts the program as the kit would."""
     kit = Path(os.environ.get("RATTLE_HOME") or Path(shutil.which("rt")).resolve().parents[1])
-    tools = kit / "on" / os.uname().machine / "toolchain"
-    emulator = tools / "bin" / "qemu-x86_64"
-    real = f"{emulator if emulator.exists() else ''} {tools}/lib/ld-linux-x86-64.so.2"
-    loader = Path(folder, name, "on", os.uname().machine, "toolchain", "lib", "ld-linux-x86-64.so.2")
+    libraries = kit / "toolchain" / "lib"
+    loader = Path(folder, name, "toolchain", "lib", "ld-linux-x86-64.so.2")
     loader.parent.mkdir(parents=True)
     # the words are: --library-path PATH PROGRAM
-    loader.write_text(f"#!/bin/sh\nreal='{real} --library-path {tools}/lib'\n{script}\n")
+    loader.write_text(f"#!/bin/sh\nreal='{libraries}/ld-linux-x86-64.so.2 --library-path {libraries}'\n{script}\n")
     loader.chmod(0o755)
     return {"RATTLE_HOME": str(Path(folder, name))}
 
@@ -151,7 +149,7 @@ def test_programs(folder):
     expect_run(["planer"], 2, [], ["there is no program planer"], command=start)
     bare = without_rt(folder)
     expect_run(["calls"], 2, [], ["the Rattle kit is missing"], command=start, env=bare)
-    expect_run(ROW, 2, [], ["the Rattle kit is missing", "rt check calls"], env=bare)
+    expect_run(ROW, 2, [], ["the Rattle kit is missing", "tools/program calls"], env=bare)
     expect_run([], 2, [], ["the Rattle kit is missing"], command=[shutil.which("bash"), str(ROOT / "run")], env=bare)
 
     failed = "echo 'planner: 2 answers and 3 bytes written, then writing answers failed: No space left on device' >&2"

@@ -200,16 +200,16 @@ class Planner:
     def failure(self, status):
         if status == 1:
             return "the program planner could not read or write all; the line above says how far it came"
-        return f"the program planner ended with status {status}; 'rt check planner' builds it"
+        return f"the program planner ended with status {status}; 'tools/program planner' builds it"
 
     def answers(self, records):
         """The answers to whole records, at most AT_A_TIME."""
         answered = exchange(self.process, records, len(records))
         if answered.startswith(b"map "):
-            raise Trouble("planner refuses a map that calls takes, so they are not of one build: run 'rt check planner calls'")
+            raise Trouble("planner refuses a map that calls takes, so they are not of one build: run 'tools/program planner calls'")
         if len(answered) != len(records):
             status = ended(self.process)
-            raise Trouble(self.failure(status) if status else "the program planner did not answer every question; 'rt check planner' builds it anew")
+            raise Trouble(self.failure(status) if status else "the program planner did not answer every question; 'tools/program planner' builds it anew")
         return answered
 
 
@@ -258,7 +258,7 @@ class Calls:
         reply = exchange(self.process, sent, sum(lengths))
         if len(reply) != sum(lengths):
             status = ended(self.process)
-            raise Trouble(f"the program calls gave no whole reply{f' and ended with status {status}' if status else ''}; 'rt check calls' builds it")
+            raise Trouble(f"the program calls gave no whole reply{f' and ended with status {status}' if status else ''}; 'tools/program calls' builds it")
         parts, at = [], 0
         for length in lengths:
             parts.append(reply[at : at + length])
@@ -320,7 +320,7 @@ class Calls:
             costs=(size, b""), work=2 * size, route=(size, b""), text=(len(records), records),
         )
         if numbers[0] != len(records):
-            raise Trouble("the program calls did not answer every question; 'rt check calls' builds it anew")
+            raise Trouble("the program calls did not answer every question; 'tools/program calls' builds it anew")
         return text
 
     def read_entry(self, rest):

@@ -24,7 +24,7 @@ Outcome = namedtuple("Outcome", "floor question answer rooms holds sums by")
 # after the answer and is raised once that is told.
 Told = namedtuple("Told", "lines object view headline status trouble", defaults=(None,))
 
-TWO_BUILDS = "planner and calls answer differently, so they are not of one build: run 'rt check planner calls'"
+TWO_BUILDS = "planner and calls answer differently, so they are not of one build: run 'tools/program planner calls'"
 BY_BOTH, BY_LIBRARY = "the program and the library, alike", f"the library; the program takes sides up to {PROGRAM_SIDE}"
 BY_ASTAR = "the library's A*; the program has the plain search alone"
 
@@ -344,7 +344,7 @@ def costs_table(given, calls, floor, _):
         return Told([f"{sizes(given.map, floor)}; least costs from {place_words(floor, given.start)}", line], answer_object(answer), None, None, DIFFERENT)
     costs = all_costs(calls, floor, start, given.ways)
     if not calls.table_is_right(floor, given.ways, start, costs):
-        raise Trouble("the check of cost tables does not take the costs that the search has left: run 'rt check calls'")
+        raise Trouble("the check of cost tables does not take the costs that the search has left: run 'tools/program calls'")
     lines = ["x,y,weight,cost"]
     lines += [
         f"{cell % floor.width},{cell // floor.width},{floor.cells[cell]},{'' if cost == MARK else cost}" for cell, cost in enumerate(costs)
