@@ -9,4 +9,4 @@ use Rattle.streams.specs.Streams.{TextIn, text_at_end}
 pub text_in : (room : List ℕ) (have : ℕ) (x : Piece) → have ≤ length room → TextIn room (text_at_end x have)
 text_in room have (Bytes n) h = h
 text_in room have End h = h
-text_in room have Failure h = tt
+text_in room have (Failure e) h = tt

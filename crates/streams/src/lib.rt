@@ -3,50 +3,57 @@
 // No contract speaks of what a system call read or wrote; what is proved is that each call keeps to the room it is lent, and what is counted.
 #![tactic(auto)]
 
-ghost use Rattle.std.specs.Prelude.{◌≡◌, ◌≤◌, ◌<◌, length, take};
+ghost use Rattle.std.specs.Prelude.{◌≡◌, ◌≤◌, ◌<◌, length, take, IfNone};
 ghost use Rattle.streams.specs.Streams.{PieceIn, TextIn, text_at_end};
+
+use std::io;
+use std::io::{Read, Write};
+use std::time::Clock;
 
 mod waiting; // waiting.rt: a short sleep
 
-use waiting::wait_if_put_off;
+use waiting::{put_off_too_often, wait_if_put_off};
 
-// What one read brought: so many bytes, the end of the input, or a failure, whose reason stands in errno.
+// What one read brought: so many bytes, the end of the input, or a failure with its reason.
 #[derive(Clone, Copy)]
 pub enum Piece {
     Bytes(usize),
     End,
-    Failure,
+    Failure(io::Error),
 }
 
-// The length of the text that was read from a file, or that it could not be read.
+// The length of the text that was read from a file, or why it could not be read.
 #[derive(Clone, Copy)]
 pub enum Text {
     Length(usize),
-    Unread,
+    Unread(io::Error),
+}
+
+// How many bytes were taken, and why not all were, if a write failed.
+#[derive(Clone, Copy)]
+pub struct Taken {
+    pub count: usize,
+    pub failure: Option<io::Error>,
 }
 
 // One read into the room from `have` on. There is room for a byte at least: else no bytes would not mean that the input has ended.
-// A proved loop has to end, and nothing says that a file stops putting a read off: the loop counts down from a number that no run uses up.
-pub fn read_piece(file: i32, room: &mut [u8], have: usize) -> Piece
+// A proved loop has to end, and nothing says that a file stops putting a read off: the loop counts up to a number that no run reaches.
+pub fn read_piece<R: Read>(clock: &impl Clock, file: &mut R, room: &mut [u8], have: usize) -> Piece
     requires { have < length room.old }
     ensures { PieceIn room.new have result × (take have room.new ≡ take have room.old) }
 {
-    let mut tries = u64::MAX;
-    while 0 < tries {
-        let got = libc::read(file, &mut room[have..]);
-        let count = io::count(got, &room[have..]);
-        if 0 < count {
-            return Piece::Bytes(count);
+    for _ in 0..u64::MAX {
+        match file.read(&mut room[have..]) {
+            Ok(0) => return Piece::End,
+            Ok(count) => return Piece::Bytes(count),
+            Err(error) => {
+                if !wait_if_put_off(clock, &error) {
+                    return Piece::Failure(error);
+                }
+            }
         }
-        if got == 0 {
-            return Piece::End;
-        }
-        if !wait_if_put_off() {
-            return Piece::Failure;
-        }
-        tries -= 1;
     }
-    Piece::Failure
+    Piece::Failure(put_off_too_often())
 }
 
 // The text at the last piece, which had no bytes.
@@ -56,17 +63,17 @@ fn text_at_end(piece: Piece, have: usize) -> Text
     match piece {
         Piece::Bytes(_) => Text::Length(have),
         Piece::End => Text::Length(have),
-        Piece::Failure => Text::Unread,
+        Piece::Failure(error) => Text::Unread(error),
     }
 }
 
 // Reads until the file ends or the room is full.
-pub fn read_text(file: i32, room: &mut [u8]) -> Text
+pub fn read_text<R: Read>(clock: &impl Clock, file: &mut R, room: &mut [u8]) -> Text
     ensures { TextIn room.new result }
 {
     let mut have = 0;
     while have < room.len() {
-        let piece = read_piece(file, room, have);
+        let piece = read_piece(clock, file, room, have);
         let Piece::Bytes(count) = piece else {
             return text_at_end(piece, have);
         };
@@ -75,24 +82,37 @@ pub fn read_text(file: i32, room: &mut [u8]) -> Text
     Text::Length(have)
 }
 
-// Writes the bytes, and goes on after a write that took a part of them. Answers how many were taken: fewer than all only if a write failed, whose reason
-// stands in errno.
-pub fn write_out(file: i32, bytes: &[u8]) -> usize
-    ensures { result ≤ length bytes.now }
+// Writes the bytes, and goes on after a write that took a part of them. Fewer than all are taken only if a write failed.
+pub fn write_out<W: Write>(clock: &impl Clock, file: &mut W, bytes: &[u8]) -> Taken
+    ensures counted { result.count ≤ length bytes.now }
+    ensures whole { IfNone result.failure (result.count ≡ length bytes.now) }
 {
     let mut done = 0;
-    let mut tries = u64::MAX;
-    while 0 < tries {
+    for _ in 0..u64::MAX {
         if done == bytes.len() {
-            return done;
+            return Taken {
+                count: done,
+                failure: None,
+            };
         }
-        let put = libc::write(file, &bytes[done..]);
-        let count = io::count(put, &bytes[done..]);
-        if count == 0 && !wait_if_put_off() {
-            return done;
+        match file.write(&bytes[done..]) {
+            Ok(0) => return failed(done, io::Error::from(io::ErrorKind::WriteZero)),
+            Ok(count) => done += count,
+            Err(error) => {
+                if !wait_if_put_off(clock, &error) {
+                    return failed(done, error);
+                }
+            }
         }
-        done += count;
-        tries -= 1;
     }
-    done
+    failed(done, put_off_too_often())
+}
+
+fn failed(count: usize, error: io::Error) -> Taken
+    ensures { result ≡ record { count = count; failure = Some error } }
+{
+    Taken {
+        count,
+        failure: Some(error),
+    }
 }

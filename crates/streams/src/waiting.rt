@@ -1,24 +1,24 @@
 // A call that the system put off is made again after a short sleep: the file may not wait by itself (EAGAIN), or a signal may have come first (EINTR).
+use std::io::ErrorKind;
+use std::time::{Clock, Duration};
+use std::{io, thread};
 
-// Waits for a hundredth of a second, or less if a signal ends the wait.
-fn pause() {
-    let asked = libc::types::timespec {
-        tv_sec: 0,
-        tv_nsec: 10000000,
-    };
-    let mut left = libc::types::timespec {
-        tv_sec: 0,
-        tv_nsec: 0,
-    };
-    libc::nanosleep(&asked, &mut left);
+// Waits for a hundredth of a second.
+fn pause(clock: &impl Clock) {
+    thread::sleep(clock, Duration::from_millis(10));
 }
 
-// Whether the call that has just failed was only put off; if so, this has waited a little.
-pub(crate) fn wait_if_put_off() -> bool {
-    let error = os::errno();
-    if error != libc::EAGAIN && error != libc::EINTR {
+// Whether the call that failed so was only put off; if it was, this has waited a little.
+pub(crate) fn wait_if_put_off(clock: &impl Clock, error: &io::Error) -> bool {
+    let kind = error.kind();
+    if kind != ErrorKind::WouldBlock && kind != ErrorKind::Interrupted {
         return false;
     }
-    pause();
+    pause(clock);
     true
+}
+
+// The reason that stands for a call that was put off each time that it was made.
+pub(crate) fn put_off_too_often() -> io::Error {
+    io::Error::from(ErrorKind::TimedOut)
 }
