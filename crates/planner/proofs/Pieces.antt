@@ -10,7 +10,7 @@ use lib.Seq.{take-add}
 use Rattle.floor.specs.declared.Floor.{Floor}
 use Rattle.answering.specs.Rooms.{Rooms}
 use Rattle.recordlayout.specs.Record.{record_size}
-use Rattle.desk.specs.Turn.{Turn, ArrivedAnswered, IsKept}
+use Rattle.desk.specs.Turn.{ArrivedAnswered, IsKept}
 use Rattle.desk.proofs.Pieces.{answers_within, turn_made, kept_length, kept_broken, no_piece, turn_on}
 use Rattle.planner.specs.declared.Turn as declared
 use Rattle.planner.specs.Gone.{greatest_count, counted, Gone}

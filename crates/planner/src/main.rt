@@ -15,11 +15,23 @@ mod telling; // telling.rt: what the program says beside its answers
 
 use desk::{answer_arrived, keep_tail};
 use floor::Floor;
-use libc::{STDIN_FILENO, STDOUT_FILENO};
 use maptext::Read;
 use mapuse::{GREATEST_TEXT, GREATEST_USED_CELLS, use_map};
+use std::fs;
+use std::io::{Stderr, Stdin, Stdout};
+use std::rt::Files;
+use std::time::Clock;
 use streams::{Piece, Text, read_piece, read_text, write_out};
 use telling::{print_missing, print_refused, tell_broken, tell_failure};
+
+// What the program reads from, writes to and speaks by. The system also has the map's file, and the clock for a call that is put off.
+#[derive(Drop)]
+struct System<'a, R> {
+    rt: &'a R,
+    questions: Stdin,
+    answers: Stdout,
+    messages: Stderr,
+}
 
 // How many bytes have gone out so far, and whether all went that were to go now.
 #[derive(Clone, Copy)]
@@ -38,19 +50,18 @@ struct Turn {
 }
 
 // A folder can be opened and not be read: there is no map then either. If the room is filled, the text is too long, whatever else the file has.
-fn read_file(room: &mut [u8]) -> Text
+fn read_file<R: Files + Clock>(system: &System<'_, R>, room: &mut [u8]) -> Text
     requires { greatest_text < length room.old }
     ensures { TextIn room.new result }
 {
-    let file = os::open_read(b"floor.map");
-    if file < 0 {
-        return Text::Unread;
+    let mut file = match fs::open(system.rt, "floor.map") {
+        Ok(file) => file,
+        Err(error) => return Text::Unread(error),
+    };
+    let text = read_text(system.rt, &mut file, room);
+    if let Text::Unread(error) = text {
+        tell_failure(system, "reading floor.map", 0, error);
     }
-    let text = read_text(file, room);
-    if let Text::Unread = text {
-        tell_failure(b"reading floor.map failed", 0);
-    }
-    libc::close(file);
     text
 }
 
@@ -66,20 +77,22 @@ fn add_to(count: u64, more: usize) -> u64
 }
 
 // Writes answers; `before` bytes have gone out before them.
-fn write_answers(answers: &[u8], before: u64) -> Sent
+fn write_answers<R: Clock>(system: &System<'_, R>, answers: &[u8], before: u64) -> Sent
     ensures { Gone answers.now before result.gone result.all }
 {
-    let taken = write_out(STDOUT_FILENO, answers);
-    let gone = add_to(before, taken);
-    let all = taken == answers.len();
-    if !all {
-        tell_failure(b"writing answers failed", gone);
+    let mut output = system.answers;
+    let taken = write_out(system.rt, &mut output, answers);
+    let gone = add_to(before, taken.count);
+    let all = taken.count == answers.len();
+    if let Some(error) = taken.failure {
+        tell_failure(system, "writing answers", gone, error);
     }
     Sent { gone, all }
 }
 
 // Answers every whole record among the first `end` bytes of the buffer, which have arrived, writes the answers, and keeps a broken last record.
-fn answer_piece(
+fn answer_piece<R: Clock>(
+    system: &System<'_, R>,
     f: Floor,
     map: &[u8],
     buffer: &mut [u8],
@@ -92,7 +105,7 @@ fn answer_piece(
     ensures { TurnTaken f map.now [] (take end buffer.old) before (rooms costs.old work.old route.old) result buffer.new (rooms costs.new work.new route.new) }
 {
     let answered = answer_arrived(f, map, buffer, end, costs, work, route);
-    let sent = write_answers(&buffer[0..answered], before);
+    let sent = write_answers(system, &buffer[0..answered], before);
     let kept = keep_tail(buffer, answered, end);
     Turn {
         kept,
@@ -102,12 +115,12 @@ fn answer_piece(
 }
 
 // The last turn, whose piece has no bytes. What was kept has no answer: the record is broken.
-fn end_turn(piece: Piece, kept: usize, gone: u64) -> Turn
+fn end_turn<R: Clock>(system: &System<'_, R>, piece: Piece, kept: usize, gone: u64) -> Turn
     ensures { result ≡ record { kept = kept; gone = gone; more = false } }
 {
     match piece {
-        Piece::Failure => tell_failure(b"reading questions failed", gone),
-        _ => tell_broken(kept),
+        Piece::Failure(error) => tell_failure(system, "reading questions", gone, error),
+        _ => tell_broken(system, kept),
     }
     Turn {
         kept,
@@ -117,7 +130,8 @@ fn end_turn(piece: Piece, kept: usize, gone: u64) -> Turn
 }
 
 // Reads what has arrived, which may be little, and answers every whole record of it before more is asked for.
-fn take_turn(
+fn take_turn<R: Clock>(
+    system: &System<'_, R>,
     f: Floor,
     map: &[u8],
     buffer: &mut [u8],
@@ -130,16 +144,28 @@ fn take_turn(
     requires { (kept < record_size) × (record_size ≤ length buffer.old) }
     ensures { SomeTurn f map.now (take kept buffer.old) gone (rooms costs.old work.old route.old) result buffer.new (rooms costs.new work.new route.new) }
 {
-    let piece = read_piece(STDIN_FILENO, buffer, kept);
+    let mut input = system.questions;
+    let piece = read_piece(system.rt, &mut input, buffer, kept);
     let Piece::Bytes(arrived) = piece else {
-        return end_turn(piece, kept, gone);
+        return end_turn(system, piece, kept, gone);
     };
-    answer_piece(f, map, buffer, kept + arrived, gone, costs, work, route)
+    answer_piece(
+        system,
+        f,
+        map,
+        buffer,
+        kept + arrived,
+        gone,
+        costs,
+        work,
+        route,
+    )
 }
 
 // What was written so far are the answers to the whole records among all bytes that have arrived so far; a broken last record gets no answer.
 // A proved loop has to end, and nothing says that the input does: it counts down from a number that no run uses up.
-fn answer_all(
+fn answer_all<R: Clock>(
+    system: &System<'_, R>,
     f: Floor,
     map: &[u8],
     buffer: &mut [u8],
@@ -154,7 +180,7 @@ fn answer_all(
     let mut gone = 0;
     let mut turns = u64::MAX;
     while 0 < turns {
-        let turn = take_turn(f, map, buffer, kept, gone, costs, work, route);
+        let turn = take_turn(system, f, map, buffer, kept, gone, costs, work, route);
         if !turn.more {
             return turn;
         }
@@ -170,37 +196,51 @@ fn answer_all(
 }
 
 // The rooms are those of the greatest floor, made once; the buffer has 64 KiB, so that many records cost one call.
-fn answer_questions(f: Floor, map: &[u8]) {
+fn answer_questions<R: Clock>(system: &System<'_, R>, f: Floor, map: &[u8]) {
     let mut buffer = [0u8; 65536];
     let mut costs = [0u32; GREATEST_USED_CELLS];
     let mut work = [0u32; 2 * GREATEST_USED_CELLS];
     let mut route = [0u8; GREATEST_USED_CELLS];
-    answer_all(f, map, &mut buffer, &mut costs, &mut work, &mut route);
+    answer_all(
+        system,
+        f,
+        map,
+        &mut buffer,
+        &mut costs,
+        &mut work,
+        &mut route,
+    );
 }
 
 // 01: the reader has a cell room of 4,096.
-fn use_text(text: &[u8], cells: &mut [u8])
+fn use_text<R: Clock>(system: &System<'_, R>, text: &[u8], cells: &mut [u8])
     requires { length cells.old ≡ greatest_used_cells }
 {
     let read = use_map(text, cells);
     match read {
-        Read::Refused(number, place) => print_refused(number, place),
+        Read::Refused(number, place) => print_refused(system, number, place),
         Read::Map(f) => {
             let width = f.width;
             let height = f.height;
             let size = width * height;
-            answer_questions(f, &cells[0..size]);
+            answer_questions(system, f, &cells[0..size]);
         }
     }
 }
 
-fn main() {
+fn main(rt: HostRuntime) {
+    let system = System {
+        rt: &rt,
+        questions: rt.stdin(),
+        answers: rt.stdout(),
+        messages: rt.stderr(),
+    };
     // One byte more than the longest text: if that is read too, the text is too long.
     let mut room = [0u8; GREATEST_TEXT + 1];
     let mut cells = [0u8; GREATEST_USED_CELLS];
-    let text = read_file(&mut room);
+    let text = read_file(&system, &mut room);
     match text {
-        Text::Unread => print_missing(),
-        Text::Length(length) => use_text(&room[0..length], &mut cells),
+        Text::Unread(_) => print_missing(&system),
+        Text::Length(length) => use_text(&system, &room[0..length], &mut cells),
     }
 }

@@ -1,62 +1,73 @@
 // What the program says beside its answers: the one line of a map that cannot be used, on standard output, and on standard error what failed.
-use libc::{STDERR_FILENO, STDOUT_FILENO};
+use crate::System;
 use recordlayout::RECORD_SIZE;
+use std::fmt::InlineText;
+use std::time::Clock;
+use std::{fmt, io};
 use streams::write_out;
 
-fn say(text: &[u8]) {
-    write_out(STDERR_FILENO, text);
+fn say<R: Clock>(system: &System<'_, R>, text: &str) {
+    let mut messages = system.messages;
+    write_out(system.rt, &mut messages, text.as_bytes());
 }
 
-fn say_number(number: u64) {
-    io::print_decimal(STDERR_FILENO, number);
+// The system's reason alone, without the number that std puts behind it.
+#[derive(Drop)]
+struct Reason(io::Error);
+
+impl fmt::Display for Reason {
+    fn fmt<W: fmt::Write>(&self, f: &mut fmt::Formatter<W>) -> fmt::Result {
+        let text = InlineText::<300>::of(self.0);
+        let words = text.as_str();
+        match words.split_once(" (os error ") {
+            Some((reason, _)) => f.write_str(reason),
+            None => f.write_str(words),
+        }
+    }
 }
 
-// How many answers have gone out, what failed then, and the reason, which stands in errno. tools/start turns this line into an exit status.
-pub(crate) fn tell_failure(what: &[u8], gone: u64) {
+// How many answers have gone out, what failed then, and why. tools/start turns this line into an exit status.
+pub(crate) fn tell_failure<R: Clock>(
+    system: &System<'_, R>,
+    what: &str,
+    gone: u64,
+    error: io::Error,
+) {
     let size = RECORD_SIZE as u64;
-    say(b"planner: ");
-    say_number(gone / size);
-    say(b" answers and ");
-    say_number(gone % size);
-    say(b" bytes written, then ");
-    os::fail(what);
+    let answers = gone / size;
+    let bytes = gone % size;
+    let reason = Reason(error);
+    let line = InlineText::<500>::of(format_args!(
+        "planner: {answers} answers and {bytes} bytes written, then {what} failed: {reason}\n"
+    ));
+    say(system, line.as_str());
 }
 
 // 01: a broken last record gets no answer.
-pub(crate) fn tell_broken(kept: usize) {
+pub(crate) fn tell_broken<R: Clock>(system: &System<'_, R>, kept: usize) {
     if kept == 0 {
         return;
     }
-    say(b"planner: no answer to the last ");
-    say_number(kept as u64);
-    say(b" bytes, which are no whole record\n");
+    let line = InlineText::<100>::of(format_args!(
+        "planner: no answer to the last {kept} bytes, which are no whole record\n"
+    ));
+    say(system, line.as_str());
 }
 
-// A piece of the line on standard output, if all went well before; whether it still does.
-fn print(fine: bool, text: &[u8]) -> bool {
-    fine && write_out(STDOUT_FILENO, text) == text.len()
-}
-
-fn print_number(fine: bool, number: u64) -> bool {
-    let mut text = [0u8; 20];
-    let length = io::decimal(number, &mut text);
-    print(fine, &text[..length])
-}
-
-fn end_line(fine: bool) {
-    if !fine {
-        tell_failure(b"writing about the map failed", 0);
+// The line about the map, on standard output.
+fn print<R: Clock>(system: &System<'_, R>, line: &str) {
+    let mut output = system.answers;
+    let taken = write_out(system.rt, &mut output, line.as_bytes());
+    if let Some(error) = taken.failure {
+        tell_failure(system, "writing about the map", 0, error);
     }
 }
 
-pub(crate) fn print_missing() {
-    end_line(print(true, b"map missing\n"));
+pub(crate) fn print_missing<R: Clock>(system: &System<'_, R>) {
+    print(system, "map missing\n");
 }
 
-pub(crate) fn print_refused(number: u32, place: usize) {
-    let begun = print(true, b"map refused ");
-    let numbered = print_number(begun, number as u64);
-    let parted = print(numbered, b" at ");
-    let placed = print_number(parted, place as u64);
-    end_line(print(placed, b"\n"));
+pub(crate) fn print_refused<R: Clock>(system: &System<'_, R>, number: u32, place: usize) {
+    let line = InlineText::<100>::of(format_args!("map refused {number} at {place}\n"));
+    print(system, line.as_str());
 }
