@@ -1,6 +1,7 @@
 // The floor: the value that travels beside a map's bytes, the table of directions, the step test and all steps of a cell; what of a floor is refused, and when
 // a question has passed.
 // specs/ says what they mean; docs/PROMISES.md has a row for each public function.
+#![tactic(auto)]
 
 pub mod steps; // steps.rt: the step test
 pub mod neighbours; // neighbours.rt: what stands around a cell, and all its steps
