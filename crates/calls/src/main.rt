@@ -49,7 +49,6 @@ use claims::routes::{check_route, fradnumber_check_route};
 use claims::tables::fradnumber_check_table;
 use desk::{answer_arrived, answer_records, keep_tail};
 use floor::Floor;
-use libc::STDOUT_FILENO;
 use maptext::{
     Read, ReadNumbers, WrittenNumbers, fradnumber_judge_map, fradnumber_read_map,
     fradnumber_write_map,
@@ -60,6 +59,8 @@ use recordlayout::fields::record_at;
 use replies::{begun, is_sent, send_bytes, send_numbers};
 use routelog::{EntryNumbers, EntryWrittenNumbers, fradnumber_read_entry, fradnumber_write_entry};
 use search::rooms::fradnumber_search;
+use std::env::{Env, FillError};
+use std::io::{Stdin, Stdout};
 use wire::{PIECE, fill_bytes, fill_numbers, put_bytes, short};
 
 // The longest room of cells on the usual stack of 8 MiB: a floor of 1,024 by 64, its text, and some more. The work room has twice as many entries.
@@ -95,6 +96,13 @@ struct Room {
     given: usize,
 }
 
+// Where the calls come from, and where the replies go.
+#[derive(Clone, Copy)]
+struct Streams {
+    input: Stdin,
+    output: Stdout,
+}
+
 // How many entries each room is given.
 #[derive(Clone, Copy)]
 struct Given {
@@ -106,10 +114,10 @@ struct Given {
 }
 
 // Where the input ends before or inside it, all is zeros, and no entry has the number 0.
-fn read_question() -> Question {
+fn read_question(input: Stdin) -> Question {
     let mut bytes = [0u8; 32];
     let mut head = [0u32; 8];
-    fill_numbers(true, &mut head, 8, &mut bytes);
+    fill_numbers(input, true, &mut head, 8, &mut bytes);
     Question {
         what: head[0],
         form: head[1],
@@ -127,12 +135,12 @@ fn long(n: u32) -> usize {
 }
 
 // Where a room is longer than the program's, or the input ends before, it reads as a room that more is given for than it holds, which ends the program.
-fn read_room(most: usize) -> Room
+fn read_room(input: Stdin, most: usize) -> Room
     ensures { result.length ≤ most }
 {
     let mut bytes = [0u8; 8];
     let mut head = [0u32; 2];
-    if fill_numbers(true, &mut head, 2, &mut bytes) {
+    if fill_numbers(input, true, &mut head, 2, &mut bytes) {
         let length = long(head[0]);
         let given = long(head[1]);
         if length <= most {
@@ -350,6 +358,7 @@ fn ask(
 
 // False if there is nothing to reply, and if the reply cannot be written.
 fn reply(
+    output: Stdout,
     form: u32,
     numbers: [u32; NUMBERS],
     map: &[u8],
@@ -362,7 +371,7 @@ fn reply(
     if numbers[0] == NO_ENTRY {
         return false;
     }
-    let sent = send_numbers(begun(form != 0), &numbers, wire);
+    let sent = send_numbers(begun(output, form != 0), &numbers, wire);
     let sent = send_bytes(sent, map);
     let sent = send_numbers(sent, costs, wire);
     let sent = send_numbers(sent, work, wire);
@@ -372,6 +381,7 @@ fn reply(
 
 // Fills the rooms, calls the entry and replies. False if the call cannot be answered.
 fn answer_call(
+    streams: Streams,
     question: Question,
     given: Given,
     map: &mut [u8],
@@ -381,17 +391,29 @@ fn answer_call(
     text: &mut [u8],
     wire: &mut [u8],
 ) -> bool {
-    let fine = fill_bytes(true, map, given.map);
-    let fine = fill_numbers(fine, costs, given.costs, wire);
-    let fine = fill_numbers(fine, work, given.work, wire);
-    let fine = fill_bytes(fine, route, given.route);
-    let filled = fill_bytes(fine, text, given.text);
+    let input = streams.input;
+    let fine = fill_bytes(input, true, map, given.map);
+    let fine = fill_numbers(input, fine, costs, given.costs, wire);
+    let fine = fill_numbers(input, fine, work, given.work, wire);
+    let fine = fill_bytes(input, fine, route, given.route);
+    let filled = fill_bytes(input, fine, text, given.text);
     let numbers = ask(filled, question, map, costs, work, route, text);
-    reply(question.form, numbers, map, costs, work, route, text, wire)
+    reply(
+        streams.output,
+        question.form,
+        numbers,
+        map,
+        costs,
+        work,
+        route,
+        text,
+        wire,
+    )
 }
 
 // One call, with the parts of the rooms that it asks for. False at the end of the input, and where the call cannot be answered.
 fn next_call(
+    streams: Streams,
     map: &mut [u8],
     costs: &mut [u32],
     work: &mut [u32],
@@ -399,12 +421,13 @@ fn next_call(
     text: &mut [u8],
     wire: &mut [u8],
 ) -> bool {
-    let question = read_question();
-    let map_room = read_room(map.len());
-    let costs_room = read_room(costs.len());
-    let work_room = read_room(work.len());
-    let route_room = read_room(route.len());
-    let text_room = read_room(text.len());
+    let input = streams.input;
+    let question = read_question(input);
+    let map_room = read_room(input, map.len());
+    let costs_room = read_room(input, costs.len());
+    let work_room = read_room(input, work.len());
+    let route_room = read_room(input, route.len());
+    let text_room = read_room(input, text.len());
     let given = Given {
         map: map_room.given,
         costs: costs_room.given,
@@ -418,6 +441,7 @@ fn next_call(
     let route_length = route_room.length;
     let text_length = text_room.length;
     answer_call(
+        streams,
         question,
         given,
         &mut map[0..map_length],
@@ -431,6 +455,7 @@ fn next_call(
 
 // A proved loop has to end, and nothing says that the input does: it counts down from a number that no run uses up.
 fn answer_calls(
+    streams: Streams,
     map: &mut [u8],
     costs: &mut [u32],
     work: &mut [u32],
@@ -439,12 +464,12 @@ fn answer_calls(
     wire: &mut [u8],
 ) {
     let mut turns = u64::MAX;
-    while turns > 0 && next_call(map, costs, work, route, text, wire) {
+    while turns > 0 && next_call(streams, map, costs, work, route, text, wire) {
         turns -= 1;
     }
 }
 
-fn answer_in_usual_rooms() {
+fn answer_in_usual_rooms(streams: Streams) {
     let mut map = [0u8; CELLS];
     let mut costs = [0u32; CELLS];
     let mut work = [0u32; 2 * CELLS];
@@ -452,15 +477,15 @@ fn answer_in_usual_rooms() {
     let mut text = [0u8; CELLS];
     let mut wire = [0u8; WIRE];
     answer_calls(
-        &mut map, &mut costs, &mut work, &mut route, &mut text, &mut wire,
+        streams, &mut map, &mut costs, &mut work, &mut route, &mut text, &mut wire,
     );
 }
 
 // These rooms are longer than the usual stack, so they must not become part of another function's frame: the compiler puts a function that is called once in
 // line, and never one that calls itself. That is all that the call here is for. Where it is made, it answers all calls, and none are left after it.
-fn answer_in_hall_rooms(again: usize) {
+fn answer_in_hall_rooms(streams: Streams, again: usize) {
     if 0 < again {
-        answer_in_hall_rooms(again - 1);
+        answer_in_hall_rooms(streams, again - 1);
     }
     let mut map = [0u8; HALL];
     let mut costs = [0u32; HALL];
@@ -469,15 +494,23 @@ fn answer_in_hall_rooms(again: usize) {
     let mut text = [0u8; HALL];
     let mut wire = [0u8; WIRE];
     answer_calls(
-        &mut map, &mut costs, &mut work, &mut route, &mut text, &mut wire,
+        streams, &mut map, &mut costs, &mut work, &mut route, &mut text, &mut wire,
     );
 }
 
-fn main() {
-    let words = os::arg_count();
-    if words < 2 {
-        answer_in_usual_rooms();
+// Whether the program was started with so many words after its name.
+fn has_word(rt: &impl Env, place: usize) -> bool {
+    !matches!(rt.arg(place, &mut []), Err(FillError::NotPresent))
+}
+
+fn main(rt: HostRuntime) {
+    let streams = Streams {
+        input: rt.stdin(),
+        output: rt.stdout(),
+    };
+    if has_word(&rt, 1) {
+        answer_in_hall_rooms(streams, usize::from(has_word(&rt, 2)));
     } else {
-        answer_in_hall_rooms(words - 2);
+        answer_in_usual_rooms(streams);
     }
 }

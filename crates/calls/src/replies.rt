@@ -1,11 +1,12 @@
 // How a reply goes out: piece after piece, each written as it is, or counted and summed up in a digest.
 use crate::wire::{piece_end, put_numbers, short, widened};
-use libc::STDOUT_FILENO;
-use std::num::wrapping_add_u64;
+use std::io::{Stdout, Write};
 
 // What has gone out of a reply so far.
 #[derive(Clone, Copy)]
 pub(crate) struct Sent {
+    // where its bytes go
+    output: Stdout,
     // its bytes are not written: two numbers stand for them, how many they are and their Adler-32
     digest: bool,
     // nothing has failed
@@ -14,8 +15,9 @@ pub(crate) struct Sent {
     sum: u32,
 }
 
-pub(crate) fn begun(digest: bool) -> Sent {
+pub(crate) fn begun(output: Stdout, digest: bool) -> Sent {
     Sent {
+        output,
         digest,
         fine: true,
         length: 0,
@@ -37,17 +39,20 @@ fn adler(sum: u32, piece: &[u8]) -> u32 {
 }
 
 pub(crate) fn send_bytes(sent: Sent, piece: &[u8]) -> Sent {
+    let mut output = sent.output;
     if sent.digest {
         return Sent {
+            output,
             digest: true,
             fine: sent.fine,
-            length: wrapping_add_u64(sent.length, piece.len() as u64),
+            length: sent.length.wrapping_add(piece.len() as u64),
             sum: adler(sent.sum, piece),
         };
     }
     Sent {
+        output,
         digest: false,
-        fine: sent.fine && io::write_all(STDOUT_FILENO, piece),
+        fine: sent.fine && output.write_all(piece).is_ok(),
         length: 0,
         sum: 1,
     }
@@ -57,6 +62,7 @@ pub(crate) fn send_bytes(sent: Sent, piece: &[u8]) -> Sent {
 fn send_front(sent: Sent, wire: &[u8], size: usize) -> Sent {
     if wire.len() < size {
         return Sent {
+            output: sent.output,
             digest: sent.digest,
             fine: false,
             length: 0,
@@ -87,5 +93,6 @@ pub(crate) fn is_sent(sent: Sent) -> bool {
     let two = [short(sent.length), sent.sum];
     let mut digest = [0u8; 8];
     put_numbers(&mut digest, 0, &two);
-    sent.fine && io::write_all(STDOUT_FILENO, &digest)
+    let mut output = sent.output;
+    sent.fine && output.write_all(&digest).is_ok()
 }

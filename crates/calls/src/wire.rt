@@ -1,7 +1,7 @@
 // What goes over the wire: numbers of four bytes, the lowest first, rooms that are filled from what is given, and what is put into a piece that goes out.
 ghost use Rattle.std.specs.Prelude.{◌<◌, ◌≤◌};
 
-use libc::STDIN_FILENO;
+use std::io::{Read, Stdin};
 
 pub(crate) fn widened(byte: u8) -> u32
     ensures { result < 256 }
@@ -46,7 +46,7 @@ fn number_at(bytes: &[u8], place: usize) -> u32 {
 
 // Reads the entries that are given, and repeats them up to the room's end; if none are, the room stays as it is. False if more are given than there is room
 // for, if the input ends before, and if not all was fine before: rooms that are filled one after the other stop at the first that fails.
-pub(crate) fn fill_bytes(fine: bool, room: &mut [u8], given: usize) -> bool {
+pub(crate) fn fill_bytes(mut input: Stdin, fine: bool, room: &mut [u8], given: usize) -> bool {
     if !fine {
         return false;
     }
@@ -56,7 +56,7 @@ pub(crate) fn fill_bytes(fine: bool, room: &mut [u8], given: usize) -> bool {
     if room.len() < given {
         return false;
     }
-    if io::read_full(STDIN_FILENO, &mut room[0..given]) < given {
+    if input.read_exact(&mut room[0..given]).is_err() {
         return false;
     }
     let mut i = given;
@@ -68,12 +68,12 @@ pub(crate) fn fill_bytes(fine: bool, room: &mut [u8], given: usize) -> bool {
 }
 
 // Reads as many numbers as the room holds. False if `bytes`, lent to hold what is read, is too short for them, and if the input ends before.
-fn read_numbers(room: &mut [u32], bytes: &mut [u8]) -> bool {
+fn read_numbers(mut input: Stdin, room: &mut [u32], bytes: &mut [u8]) -> bool {
     if bytes.len() / 4 < room.len() {
         return false;
     }
     let size = 4 * room.len();
-    if io::read_full(STDIN_FILENO, &mut bytes[0..size]) < size {
+    if input.read_exact(&mut bytes[0..size]).is_err() {
         return false;
     }
     let mut i = 0;
@@ -97,7 +97,13 @@ fn repeat_numbers(room: &mut [u32], given: usize) {
 }
 
 // The same as fill_bytes for a room of numbers; `bytes` is lent to hold a piece of what is read.
-pub(crate) fn fill_numbers(fine: bool, room: &mut [u32], given: usize, bytes: &mut [u8]) -> bool {
+pub(crate) fn fill_numbers(
+    input: Stdin,
+    fine: bool,
+    room: &mut [u32],
+    given: usize,
+    bytes: &mut [u8],
+) -> bool {
     if !fine {
         return false;
     }
@@ -107,7 +113,7 @@ pub(crate) fn fill_numbers(fine: bool, room: &mut [u32], given: usize, bytes: &m
     let mut at = 0;
     while at < given {
         let end = piece_end(at, given);
-        if !read_numbers(&mut room[at..end], bytes) {
+        if !read_numbers(input, &mut room[at..end], bytes) {
             return false;
         }
         at = end;
