@@ -1,6 +1,6 @@
 // The walk back from the goal: at each cell the step into it that gives it its cost, the lowest direction first. That is the first of the least-cost routes.
 // Its steps, P and Q are summed as the walk meets them.
-ghost use Rattle.std.specs.Prelude.{◌≡◌, ◌++◌, reverse, ◌+◌, ◌≤◌, ◌<◌, length, drop};
+ghost use Rattle.std.specs.Prelude.{◌≡◌, ◌++◌, reverse, ◌+◌, ◌≤◌, ◌<◌, length, take, drop};
 ghost use Rattle.paths.specs.Graph.{MARK};
 ghost use Rattle.paths.specs.First.{first_route};
 ghost use Rattle.floor.specs.Place.{cells};
@@ -111,6 +111,22 @@ fn write_back(
     length
 }
 
+// Turns round the first steps in a route's room, by exchanges from both ends: a long route takes no more of the stack than a short one.
+fn turn_round(route: &mut [u8], steps: usize)
+    requires { steps ≤ length route.old }
+    ensures { route.new ≡ reverse (take steps route.old) ++ drop steps route.old }
+{
+    let mut low = 0;
+    let mut high = steps;
+    while 2 <= high - low {
+        high -= 1;
+        let first = route[low];
+        route[low] = route[high];
+        route[high] = first;
+        low += 1;
+    }
+}
+
 // Writes the first route, from the start onwards, and gives how long it is. One walk does: what it wrote is turned round.
 pub fn write_route(
     f: Floor,
@@ -126,6 +142,6 @@ pub fn write_route(
 {
     let length = write_back(f, map, costs, start, goal, route);
     let steps = length.steps;
-    route[..steps].reverse();
+    turn_round(route, steps);
     length
 }
