@@ -33,7 +33,7 @@ abbrev pub claim_lines : Floor → List ℕ → Claim → List Line
 claim_lines f m c = question_lines f m c.start c.goal ++ (steps_line f c ∷ [])
 
 -- 41: no such direction, 42: leaves the map, 43: enters a blocked cell, 44: cuts a corner.
--- A route that has come this far stands on an open cell (proofs/Claims.antt, leaves-open), so that the cell left is never at fault
+-- A route that has come this far stands on an open cell (proofs/Claims.antt, leaves_open), so that the cell left is never at fault
 abbrev pub fault_of : Reason → ℕ
 fault_of NoSuchDirection = 41
 fault_of LeftOffMap = 42

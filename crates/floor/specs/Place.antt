@@ -40,7 +40,7 @@ pub record IsNear (p : Place) : Type 0 where
   pub row : 0 < p.row
   pub row_small : p.row ≤ MARK
 
--- one step by a row of the table from p: dx columns east and dy rows south (proofs/Rows.antt, moved-east and moved-south)
+-- one step by a row of the table from p: dx columns east and dy rows south (proofs/Rows.antt, moved_east and moved_south)
 abbrev pub moved_by : Place → Direction → Place
 moved_by p r = at (p.column + plus_one r.dx - 1) (p.row + plus_one r.dy - 1)
 

@@ -47,7 +47,7 @@ module _ (h : ℕ → ℕ) (t : List ℕ) (goal v : ℕ) where
       go (yes k) = rw (T_true (known t goal) k) (le→leb (get_or t v 0 + h v) (get_or t goal 0) (x.within (known_is t goal k)))
       go (no k) = rw (not_T_false (known t goal) k) tt
 
--- no least cost reaches MARK: where the graph is lawful, by value-fits
+-- no least cost reaches MARK: where the graph is lawful, by value_fits
 module _ {g : Graph} (st : Stepping g) (s : ℕ) (start : s < g.cells) (h : ℕ → ℕ) (con : Consistent g h) (goal : ℕ) (inside : goal < g.cells) (home : h goal ≡ 0)
     {costs : List ℕ} (e : SpreadEnds g s h goal costs) (t : List ℕ) (right : Right g s t)
     (fits : (v : ℕ) → v < g.cells → get_or t v 0 ≢ MARK → get_or t v 0 < MARK) where
