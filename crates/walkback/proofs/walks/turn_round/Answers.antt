@@ -1,3 +1,4 @@
+-- Each exchange goes on with what is turned round, and when at most one byte is left, all are.
 use native.Mathlib.Omega.{arith}
 use Rattle.walkback.proofs.Turning.{turning_begins, turning_goes, turning_ends}
 use Rattle.walkback.proofs.walks.turn_round.Goals as goal

@@ -1,3 +1,4 @@
+-- The invariant: the bytes outside low and high are turned round. The measure is how many stand between.
 use Prim.Native.Nat.{◌-◌}
 use Rattle.walkback.proofs.Turning.{Turning}
 use Rattle.walkback.proofs.walks.turn_round.Given as goal
