@@ -498,9 +498,14 @@ fn answer_in_hall_rooms(streams: Streams, again: usize) {
     );
 }
 
-// Whether the program was started with so many words after its name.
-fn has_word(rt: &impl Env, place: usize) -> bool {
-    !matches!(rt.arg(place, &mut []), Err(FillError::NotPresent))
+// How many words the program was started with, its name among them.
+fn word_count(rt: &impl Env) -> usize {
+    for place in 0..usize::MAX {
+        if matches!(rt.arg(place, &mut []), Err(FillError::NotPresent)) {
+            return place;
+        }
+    }
+    usize::MAX
 }
 
 fn main(rt: HostRuntime) {
@@ -508,9 +513,10 @@ fn main(rt: HostRuntime) {
         input: rt.stdin(),
         output: rt.stdout(),
     };
-    if has_word(&rt, 1) {
-        answer_in_hall_rooms(streams, usize::from(has_word(&rt, 2)));
-    } else {
+    let words = word_count(&rt);
+    if words < 2 {
         answer_in_usual_rooms(streams);
+    } else {
+        answer_in_hall_rooms(streams, words - 2);
     }
 }

@@ -219,16 +219,3 @@ module _ (f : Floor) (m : List ℕ) where
     -- no least cost is above the greatest cost
     pub least_cost_bound : (s v c : ℕ) → s < cells f → Least (graph f m) s v c → c ≤ greatest_cost
     least_cost_bound s v c h l = omega (arith, least_cost_most lawful s h v c l, few_cells good)
-
--- the numbers of 02, R-3, R-4 and R-7
-least_step_lem : least_step ≡ 140
-least_step_lem = refl
-
-least_diagonal_lem : least_diagonal ≡ 198
-least_diagonal_lem = refl
-
-greatest_step_lem : greatest_step ≡ 1782
-greatest_step_lem = refl
-
-greatest_cost_lem : greatest_cost ≡ 1868560650
-greatest_cost_lem = refl

@@ -7,6 +7,7 @@ pub mod Beside
 pub mod Onwards
 pub mod Allowed
 pub mod Laws
+pub mod Figures
 pub mod Estimating
 pub mod Entering
 pub mod Lengths
