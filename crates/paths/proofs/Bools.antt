@@ -2,7 +2,7 @@
 use mathlib.Core.Path.{◌≡◌, refl, sym}
 use mathlib.Core.Logic.{◌≢◌, ◌⊎◌, inl, inr}
 use mathlib.Core.Bool.{Bool, true, false, cond, not, ◌&&◌, ◌||◌}
-use mathlib.Core.Option.{none, some}
+use Rattle.std.specs.Prelude.{None, Some}
 use Prim.Native.Nat.{ℕ}
 use native.Mathlib.Omega.{arith}
 use borrow.Author.Tests.{eq-eqb, ne_eqb}
@@ -56,6 +56,6 @@ pub by_cond : {A : Type 0} (P : A → Type 0) (b : Bool) (x y : A) → (T b → 
 by_cond P true x y f g = f tt
 by_cond P false x y f g = g tt
 
-pub cond_some : (b : Bool) (x c : ℕ) → cond b (some x) none ≡ some c → T b × (x ≡ c)
+pub cond_some : (b : Bool) (x c : ℕ) → cond b (Some x) None ≡ Some c → T b × (x ≡ c)
 cond_some true x c e = (tt, cc)
 cond_some false x c e = let z : ◌≡◌ {A = ℕ} 0 1 = cc in absurd (omega arith)

@@ -2,7 +2,7 @@
 use mathlib.Core.Path.{◌≡◌, refl, sym, ◌∙◌, ap, subst}
 use mathlib.Core.Logic.{◌≢◌, ◌⊎◌, inl, inr}
 use mathlib.Core.List.{List, [], ◌∷◌, ◌++◌, reverse, reverse-cons, reverse-append, reverse-reverse}
-use mathlib.Core.Option.{Option, none, some}
+use Rattle.std.specs.Prelude.{Option, None, Some}
 use Prim.Native.Nat.{ℕ, zero, suc, ◌+◌, ◌≤◌, ◌<◌}
 use native.Mathlib.Omega.{arith}
 use native.Mathlib.Decide.{ℕ_discrete}
@@ -37,11 +37,11 @@ first_unique g s v ds es f h =
     go (inr a) (inl e) = e
     go (inr a) (inr b) = absurd (not_both_ahead (reverse ds) (reverse es) a b)
 
-pub meets_some : (o : Option ℕ) (c : ℕ) → T (meets o c) → o ≡ some c
-meets_some none c h = absurd h
-meets_some (some a) c h = ap {B = Option ℕ} some (eqb→eq a c h)
+pub meets_some : (o : Option ℕ) (c : ℕ) → T (meets o c) → o ≡ Some c
+meets_some None c h = absurd h
+meets_some (Some a) c h = ap {B = Option ℕ} Some (eqb→eq a c h)
 
-pub some_meets : (o : Option ℕ) (c : ℕ) → o ≡ some c → T (meets o c)
+pub some_meets : (o : Option ℕ) (c : ℕ) → o ≡ Some c → T (meets o c)
 some_meets o c e = rw e (eqb_refl c)
 
 pub reverse_snoc : (es : List ℕ) (e : ℕ) → reverse (es ++ (e ∷ [])) ≡ e ∷ reverse es
@@ -73,7 +73,7 @@ module _ {g : Graph} {least most : ℕ} (law : Lawful g least most) (s : ℕ) (t
         sum = omega (arith, b.1, y, x.costs);
       }
 
-  gives : (v : ℕ) (es : List ℕ) (x : LeastEnding v es) → offer g t v x.end.d ≡ some (get_or t v 0)
+  gives : (v : ℕ) (es : List ℕ) (x : LeastEnding v es) → offer g t v x.end.d ≡ Some (get_or t v 0)
   gives v es x =
       is_offer law s t v (get_or t v 0)
       (record { u = x.end.u; d = x.end.d; steps = x.end.steps; lands = x.end.lands; known = x.known; sum = x.sum })
@@ -112,7 +112,7 @@ module _ {g : Graph} {least most : ℕ} (law : Lawful g least most) (s : ℕ) (t
     pub lands : g.to u d ≡ v
     pub known : get_or t u 0 ≢ MARK
     pub sum : get_or t u 0 + g.cost u d ≡ get_or t v 0
-    pub none_lower : (e : ℕ) → e < g.directions → offer g t v e ≡ some (get_or t v 0) → d ≤ e
+    pub none_lower : (e : ℕ) → e < g.directions → offer g t v e ≡ Some (get_or t v 0) → d ≤ e
 
   pub chosen : (v : ℕ) → v < g.cells → v ≢ s → get_or t v 0 ≢ MARK → Chosen v (last_step g t v)
   unfolding last_step

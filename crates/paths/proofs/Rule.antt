@@ -3,8 +3,7 @@ use mathlib.Core.Path.{◌≡◌, refl, sym, ◌∙◌, ap, subst}
 use mathlib.Core.Logic.{◌≢◌, ◌⊎◌, inl, inr}
 use mathlib.Core.Bool.{not, ◌&&◌}
 use mathlib.Core.List.{List, [], ◌∷◌, ◌++◌}
-use mathlib.Core.Option
-use mathlib.Core.Option.{Option, none, some}
+use Rattle.std.specs.Prelude.{Option, None, Some, unwrap_or}
 use Prim.Native.Nat.{ℕ, zero, suc, ◌+◌, ◌≤◌, ◌<◌, min}
 use native.Mathlib.Omega.{arith}
 use native.Mathlib.Decide.{ℕ_discrete, dec_le}
@@ -18,31 +17,31 @@ use Rattle.paths.proofs.Bools.{T_true, T_and, eq_T, not_eqb_ne, cond_some}
 use Rattle.paths.proofs.Walks.{snoc}
 use Rattle.paths.proofs.Ground.{Parent, Grounded, Tight, grounded_right, right_grounded, right_tight}
 
-some_inj : {a b : ℕ} → some a ≡ some b → a ≡ b
+some_inj : {a b : ℕ} → Some a ≡ Some b → a ≡ b
 some_inj e = cc
 
-smaller_left : (a b : Option ℕ) (c : ℕ) → a ≡ some c → (k : ℕ) × (smaller a b ≡ some k) × (k ≤ c)
-smaller_left none b c e = let z : ◌≡◌ {A = ℕ} 0 1 = cc in absurd (omega arith)
-smaller_left (some a) none c e = (a, refl, let z : a ≡ c = cc in omega arith)
-smaller_left (some a) (some b) c e = (min a b, refl, let z : a ≡ c = cc in omega arith)
+smaller_left : (a b : Option ℕ) (c : ℕ) → a ≡ Some c → (k : ℕ) × (smaller a b ≡ Some k) × (k ≤ c)
+smaller_left None b c e = let z : ◌≡◌ {A = ℕ} 0 1 = cc in absurd (omega arith)
+smaller_left (Some a) None c e = (a, refl, let z : a ≡ c = cc in omega arith)
+smaller_left (Some a) (Some b) c e = (min a b, refl, let z : a ≡ c = cc in omega arith)
 
-smaller_right : (a b : Option ℕ) (c : ℕ) → b ≡ some c → (k : ℕ) × (smaller a b ≡ some k) × (k ≤ c)
-smaller_right none b c e = (c, e, omega arith)
-smaller_right (some a) none c e = let z : ◌≡◌ {A = ℕ} 0 1 = cc in absurd (omega arith)
-smaller_right (some a) (some b) c e = (min a b, refl, let z : b ≡ c = cc in omega arith)
+smaller_right : (a b : Option ℕ) (c : ℕ) → b ≡ Some c → (k : ℕ) × (smaller a b ≡ Some k) × (k ≤ c)
+smaller_right None b c e = (c, e, omega arith)
+smaller_right (Some a) None c e = let z : ◌≡◌ {A = ℕ} 0 1 = cc in absurd (omega arith)
+smaller_right (Some a) (Some b) c e = (min a b, refl, let z : b ≡ c = cc in omega arith)
 
-smaller_some : (a b : Option ℕ) (c : ℕ) → smaller a b ≡ some c → (a ≡ some c) ⊎ (b ≡ some c)
-smaller_some none b c e = inr e
-smaller_some (some a) none c e = inl e
-smaller_some (some a) (some b) c e = go (dec_le a b)
+smaller_some : (a b : Option ℕ) (c : ℕ) → smaller a b ≡ Some c → (a ≡ Some c) ⊎ (b ≡ Some c)
+smaller_some None b c e = inr e
+smaller_some (Some a) None c e = inl e
+smaller_some (Some a) (Some b) c e = go (dec_le a b)
   where
-    go : Dec (a ≤ b) → (some a ≡ some c) ⊎ (some b ≡ some c)
+    go : Dec (a ≤ b) → (Some a ≡ Some c) ⊎ (Some b ≡ Some c)
     go (yes h) = let z : min a b ≡ a = omega arith in inl (cc)
     go (no h) = let z : min a b ≡ b = omega arith in inr (cc)
 
 module _ {g : Graph} {least most : ℕ} (law : Lawful g least most) (s : ℕ) (t : List ℕ) where
   -- an offer is a step into v from a cell with a value, and every such step is an offer
-  pub offer_is : (v d c : ℕ) → offer g t v d ≡ some c → (x : Offers g t v c) × (x.d ≡ d)
+  pub offer_is : (v d c : ℕ) → offer g t v d ≡ Some c → (x : Offers g t v c) × (x.d ≡ d)
   unfolding offer
   offer_is v d c e =
       let u = g.from v d in
@@ -51,37 +50,37 @@ module _ {g : Graph} {least most : ℕ} (law : Lawful g least most) (s : ℕ) (t
       let b = T_and (g.allowed u d) (eqb (g.to u d) v) a.0 in
       (record { u = u; d = d; steps = b.0; lands = eqb→eq (g.to u d) v b.1; known = not_eqb_ne _ _ a.1; sum = h.1 }, refl)
 
-  offer_of : (u d : ℕ) → T (g.allowed u d) → get_or t u 0 ≢ MARK → offer g t (g.to u d) d ≡ some (get_or t u 0 + g.cost u d)
+  offer_of : (u d : ℕ) → T (g.allowed u d) → get_or t u 0 ≢ MARK → offer g t (g.to u d) d ≡ Some (get_or t u 0 + g.cost u d)
   unfolding offer
   offer_of u d k h = rw (law.back u d k, T_true (g.allowed u d) k, eq-eqb (g.to u d) (g.to u d) refl, ne_eqb (get_or t u 0) MARK h)
 
-  pub is_offer : (v c : ℕ) (x : Offers g t v c) → offer g t v x.d ≡ some c
+  pub is_offer : (v c : ℕ) (x : Offers g t v c) → offer g t v x.d ≡ Some c
   is_offer v c x = rw (x.lands, x.sum) at (offer_of x.u x.d x.steps x.known)
 
   -- the smallest offer is an offer, and at most each of them
-  pub smallest_is : (v n c : ℕ) → smallest g t v n ≡ some c → (d : ℕ) × (offer g t v d ≡ some c)
+  pub smallest_is : (v n c : ℕ) → smallest g t v n ≡ Some c → (d : ℕ) × (offer g t v d ≡ Some c)
   smallest_is v zero c e = let z : ◌≡◌ {A = ℕ} 0 1 = cc in absurd (omega arith)
   smallest_is v (suc n) c e = go (smaller_some (smallest g t v n) (offer g t v n) c e) (smallest_is v n c)
     where
-      go : (smallest g t v n ≡ some c) ⊎ (offer g t v n ≡ some c) → (smallest g t v n ≡ some c → (d : ℕ) × (offer g t v d ≡ some c)) → (d : ℕ) × (offer g t v d ≡ some c)
+      go : (smallest g t v n ≡ Some c) ⊎ (offer g t v n ≡ Some c) → (smallest g t v n ≡ Some c → (d : ℕ) × (offer g t v d ≡ Some c)) → (d : ℕ) × (offer g t v d ≡ Some c)
       go (inl h) ih = ih h
       go (inr h) ih = (n, h)
 
-  smallest_le : (v n d c : ℕ) → d < n → offer g t v d ≡ some c → (k : ℕ) × (smallest g t v n ≡ some k) × (k ≤ c)
+  smallest_le : (v n d c : ℕ) → d < n → offer g t v d ≡ Some c → (k : ℕ) × (smallest g t v n ≡ Some k) × (k ≤ c)
   smallest_le v zero d c h e = absurd (omega arith)
   smallest_le v (suc n) d c h e = go (ℕ_discrete d n) (λ l. smallest_le v n d c l e)
     where
-      go : Dec (d ≡ n) → (d < n → (k : ℕ) × (smallest g t v n ≡ some k) × (k ≤ c)) → (k : ℕ) × (smallest g t v (suc n) ≡ some k) × (k ≤ c)
+      go : Dec (d ≡ n) → (d < n → (k : ℕ) × (smallest g t v n ≡ Some k) × (k ≤ c)) → (k : ℕ) × (smallest g t v (suc n) ≡ Some k) × (k ≤ c)
       go (yes p) ih = smaller_right (smallest g t v n) (offer g t v n) c (rw p at e)
       go (no p) ih =
           let r = ih (omega arith) in
           let q = smaller_left (smallest g t v n) (offer g t v n) r.0 r.1 in
           (q.0, q.1, omega (arith, q.2, r.2))
 
-  pub offered : (v c : ℕ) → Offers g t v c → (k : ℕ) × (smallest g t v g.directions ≡ some k) × (k ≤ c)
+  pub offered : (v c : ℕ) → Offers g t v c → (k : ℕ) × (smallest g t v g.directions ≡ Some k) × (k ≤ c)
   offered v c x = smallest_le v g.directions x.d c (law.numbered x.u x.d x.steps) (is_offer v c x)
 
-  pub due_other : (v : ℕ) (o : Option ℕ) → v ≢ s → smallest g t v g.directions ≡ o → due g s t v ≡ Option.get_or o MARK
+  pub due_other : (v : ℕ) (o : Option ℕ) → v ≢ s → smallest g t v g.directions ≡ o → due g s t v ≡ unwrap_or o MARK
   unfolding due
   due_other v o h e = rw (ne_eqb v s h, e)
 
@@ -106,10 +105,10 @@ module _ {g : Graph} {least most : ℕ} (law : Lawful g least most) (s : ℕ) (t
     }
       where
         go : (v : ℕ) → v < g.cells → v ≢ s → get_or t v 0 ≢ MARK → (x : Option ℕ) → smallest g t v g.directions ≡ x → Parent g t v
-        go v h n m none e = absurd (m (keeps_is v (o.rule v h) ∙ due_other v none n e))
-        go v h n m (some c) e =
+        go v h n m None e = absurd (m (keeps_is v (o.rule v h) ∙ due_other v None n e))
+        go v h n m (Some c) e =
             let f = smallest_is v g.directions c e in
-            subst (λ (k : ℕ). Offers g t v k) (sym (keeps_is v (o.rule v h) ∙ due_other v (some c) n e)) (offer_is v f.0 c f.1).0
+            subst (λ (k : ℕ). Offers g t v k) (sym (keeps_is v (o.rule v h) ∙ due_other v (Some c) n e)) (offer_is v f.0 c f.1).0
 
     obeys_tight : Obeys g s t → Tight g t
     obeys_tight o u d k m = go (ℕ_discrete (g.to u d) s)
@@ -118,7 +117,7 @@ module _ {g : Graph} {least most : ℕ} (law : Lawful g least most) (s : ℕ) (t
         go (yes e) = omega (arith, ap (λ (x : ℕ). get_or t x 0) e, keeps_is s (o.rule s i), due_start)
         go (no e) =
             let x = offered (g.to u d) (get_or t u 0 + g.cost u d) (record { u = u; d = d; steps = k; lands = refl; known = m; sum = refl }) in
-            omega (arith, keeps_is (g.to u d) (o.rule (g.to u d) (law.enters u d k)) ∙ due_other (g.to u d) (some x.0) e x.1, x.2)
+            omega (arith, keeps_is (g.to u d) (o.rule (g.to u d) (law.enters u d k)) ∙ due_other (g.to u d) (Some x.0) e x.1, x.2)
 
     pub obeys_right : Obeys g s t → Right g s t
     obeys_right o = grounded_right law s t (obeys_grounded o) (obeys_tight o)
@@ -138,17 +137,17 @@ module _ {g : Graph} {least most : ℕ} (law : Lawful g least most) (s : ℕ) (t
 
       right_due : (v : ℕ) → v < g.cells → Dec (v ≡ s) → (o : Option ℕ) → smallest g t v g.directions ≡ o → Dec (get_or t v 0 ≡ MARK) → get_or t v 0 ≡ due g s t v
       right_due v h (yes e) o q m = ap (λ (x : ℕ). get_or t x 0) e ∙ grounded.origin ∙ sym due_start ∙ ap (due g s t) (sym e)
-      right_due v h (no e) none q (yes m) = m ∙ sym (due_other v none e q)
-      right_due v h (no e) none q (no m) =
+      right_due v h (no e) None q (yes m) = m ∙ sym (due_other v None e q)
+      right_due v h (no e) None q (no m) =
           let y = (offered v (get_or t v 0) (grounded.parent v h e m)).1 in
           let z : ◌≡◌ {A = ℕ} 0 1 = cc in
           absurd (omega arith)
-      right_due v h (no e) (some c) q m =
+      right_due v h (no e) (Some c) q m =
           let f = smallest_is v g.directions c q in
           let a = reachable v c h (offer_is v f.0 c f.1).0 in
           let y = offered v (get_or t v 0) (grounded.parent v h e a.0) in
           let z : y.0 ≡ c = some_inj (sym y.1 ∙ q) in
-          omega (arith, a.1, y.2, due_other v (some c) e q)
+          omega (arith, a.1, y.2, due_other v (Some c) e q)
 
       pub right_obeys : Obeys g s t
       right_obeys = record {

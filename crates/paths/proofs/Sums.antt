@@ -2,12 +2,12 @@
 use mathlib.Core.Path.{◌≡◌, refl, sym, ◌∙◌, subst}
 use mathlib.Core.Logic.{◌↔◌, ◌≢◌}
 use mathlib.Core.List.{List}
-use mathlib.Core.Option.{Option, none, some}
+use Rattle.std.specs.Prelude.{Option, None, Some}
 use Prim.Native.Nat.{ℕ}
 use native.Mathlib.Omega.{arith}
-use Rattle.paths.specs.Graph.{Graph, Lawful, MARK}
+use Rattle.paths.specs.Graph.{Graph, Lawful}
 use Rattle.paths.specs.Table.{smallest, due}
-use Rattle.paths.specs.Sum.{Offers, IsSmallestSum, smallest_sum, no_sum}
+use Rattle.paths.specs.Sum.{IsSmallestSum, smallest_sum, no_sum}
 use Rattle.paths.proofs.Rule.{offer_is, smallest_is, offered, due_other}
 
 module _ {g : Graph} {least most : ℕ} (law : Lawful g least most) (s : ℕ) (t : List ℕ) (v : ℕ) (other : v ≢ s) where
@@ -15,10 +15,10 @@ module _ {g : Graph} {least most : ℕ} (law : Lawful g least most) (s : ℕ) (t
   due_is = go (smallest g t v g.directions) refl
     where
       go : (o : Option ℕ) → smallest g t v g.directions ≡ o → IsSmallestSum g t v (due g s t v)
-      go none e = no_sum (λ b x. let y = offered law s t v b x in let z : ◌≡◌ {A = ℕ} 0 1 = cc y.1 in omega arith) (due_other law s t v none other e)
-      go (some c) e =
+      go None e = no_sum (λ b x. let y = offered law s t v b x in let z : ◌≡◌ {A = ℕ} 0 1 = cc y.1 in omega arith) (due_other law s t v None other e)
+      go (Some c) e =
           let f = smallest_is law s t v g.directions c e in
-          subst (IsSmallestSum g t v) (sym (due_other law s t v (some c) other e))
+          subst (IsSmallestSum g t v) (sym (due_other law s t v (Some c) other e))
           (smallest_sum (offer_is law s t v f.0 c f.1).0
           (λ b x. let y = offered law s t v b x in let z : y.0 ≡ c = cc y.1 in omega (arith, y.2)))
 

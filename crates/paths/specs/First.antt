@@ -1,6 +1,5 @@
 -- The order of least-cost routes, and the first of them.
-use Rattle.std.specs.Prelude.{◌≡◌, ◌⊎◌, Bool, false, cond, List, [], ◌∷◌, reverse, ℕ, zero, suc, ◌≤◌, ◌<◌, eqb, get_or}
-use Rattle.std.proofs.Math.Option.{Option, none, some}
+use Rattle.std.specs.Prelude.{◌≡◌, ◌⊎◌, Bool, false, cond, List, [], ◌∷◌, reverse, ℕ, zero, suc, ◌≤◌, ◌<◌, eqb, get_or, Option, None, Some}
 use Rattle.paths.specs.Below.{lowest}
 use Rattle.paths.specs.Graph.{Graph}
 use Rattle.paths.specs.Route.{cost_of, Route}
@@ -19,8 +18,8 @@ pub record First (g : Graph) (s v : ℕ) (ds : List ℕ) : Type 0 where
   pub ahead : (es : List ℕ) → Route g s v es → cost_of g s es ≡ cost_of g s ds → (es ≡ ds) ⊎ Ahead (reverse ds) (reverse es)
 
 abbrev pub meets : Option ℕ → ℕ → Bool
-meets none c = false
-meets (some a) c = eqb a c
+meets None c = false
+meets (Some a) c = eqb a c
 
 -- the lowest direction of a step into v that gives v its value in the right table t
 unfoldable pub last_step : Graph → List ℕ → ℕ → ℕ

@@ -1,7 +1,5 @@
 -- Cost tables: the right table of a start, and the rule by which a table is tested cell by cell.
-use Rattle.std.specs.Prelude.{◌≡◌, ◌≢◌, Bool, cond, not, ◌&&◌, List, ℕ, zero, suc, ◌+◌, ◌<◌, min, T, eqb, length, get_or}
-use Rattle.std.proofs.Math.Option
-use Rattle.std.proofs.Math.Option.{Option, none, some}
+use Rattle.std.specs.Prelude.{◌≡◌, ◌≢◌, Bool, cond, not, ◌&&◌, List, ℕ, zero, suc, ◌+◌, ◌<◌, min, T, eqb, length, get_or, Option, None, Some, unwrap_or}
 use Rattle.paths.specs.Graph.{Graph, MARK}
 use Rattle.paths.specs.Route.{Route, Least}
 
@@ -15,21 +13,21 @@ pub record Right (g : Graph) (s : ℕ) (t : List ℕ) : Type 0 where
 unfoldable pub offer : Graph → List ℕ → ℕ → ℕ → Option ℕ
 offer g t v d =
     let u = g.from v d in
-    cond (g.allowed u d && eqb (g.to u d) v && not (eqb (get_or t u 0) MARK)) (some (get_or t u 0 + g.cost u d)) none
+    cond (g.allowed u d && eqb (g.to u d) v && not (eqb (get_or t u 0) MARK)) (Some (get_or t u 0 + g.cost u d)) None
 
 abbrev pub smaller : Option ℕ → Option ℕ → Option ℕ
-smaller none b = b
-smaller (some a) none = some a
-smaller (some a) (some b) = some (min a b)
+smaller None b = b
+smaller (Some a) None = Some a
+smaller (Some a) (Some b) = Some (min a b)
 
 -- the smallest offer of the directions below n
 abbrev pub smallest : Graph → List ℕ → ℕ → ℕ → Option ℕ
-smallest g t v zero = none
+smallest g t v zero = None
 smallest g t v (suc n) = smaller (smallest g t v n) (offer g t v n)
 
 -- What the rule asks of cell v by the values of the others: 0 of the start, of any other the smallest offer, or MARK if there is none
 unfoldable pub due : Graph → ℕ → List ℕ → ℕ → ℕ
-due g s t v = cond (eqb v s) 0 (Option.get_or (smallest g t v g.directions) MARK)
+due g s t v = cond (eqb v s) 0 (unwrap_or (smallest g t v g.directions) MARK)
 
 -- cell v has what it is due
 unfoldable pub keeps : Graph → ℕ → List ℕ → ℕ → Bool

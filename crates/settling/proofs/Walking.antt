@@ -4,7 +4,7 @@ use mathlib.Core.Path.{◌≡◌, refl, sym, ◌∙◌, ap, subst}
 use mathlib.Core.Logic.{◌≢◌}
 use mathlib.Core.Bool.{cond}
 use mathlib.Core.List.{List, [], ◌∷◌, ◌++◌, append_assoc, append-nil, reverse}
-use mathlib.Core.Option.{some}
+use Rattle.std.specs.Prelude.{Some}
 use Prim.Native.Nat.{ℕ, zero, suc, ◌+◌, ◌-◌, ◌≤◌, ◌<◌}
 use native.Mathlib.Omega.{arith}
 use borrow.Author.Tests.{eq-eqb, ne_eqb}
@@ -35,7 +35,7 @@ module _ {g : Graph} {least most : ℕ} (law : Lawful g least most) (s : ℕ) (h
       let e = same x.u (law.leaves x.u x.d x.steps) x.known (sum_falls x.u x.d v (get_or a x.u 0) (get_or a v 0) x.steps x.lands x.sum l) in
       let o = is_offer law s b v (get_or b v 0)
       (record { u = x.u; d = x.d; steps = x.steps; lands = x.lands; known = λ z. x.known (sym e ∙ z); sum = omega (arith, x.sum, e, same v i n l) }) in
-      some_meets (offer g b v d) (get_or b v 0) (subst (λ (k : ℕ). offer g b v k ≡ some (get_or b v 0)) y.1 o)
+      some_meets (offer g b v d) (get_or b v 0) (subst (λ (k : ℕ). offer g b v k ≡ Some (get_or b v 0)) y.1 o)
 
   module _ (start : s < g.cells) (t : List ℕ) (right : Right g s t) (costs : List ℕ) (a : AgreeBy g h top t costs) where
     last_same : (v : ℕ) → v < g.cells → Near h top t v → last_step g costs v ≡ last_step g t v
