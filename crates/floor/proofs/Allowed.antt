@@ -1,5 +1,7 @@
 -- An allowed step in 01's words: the tests of step_of are taken apart once, and put together again.
-use mathlib.Core.Path.{◌≡◌, refl}
+use Rattle.std.specs.Prelude.{Some, None, Result, Ok, Err}
+use Rattle.floor.specs.declared.Step.{Step}
+use mathlib.Core.Path.{◌≡◌, refl, sym, ap, ◌∙◌}
 use mathlib.Core.Logic.{◌↔◌}
 use mathlib.Core.Bool.{Bool, true, false, cond, not, ◌&&◌}
 use mathlib.Core.List.{List}
@@ -9,15 +11,12 @@ use lib.Dec.{T, ltb, ltb→lt, lt→ltb}
 use lib.ListN.{get_or}
 use Rattle.paths.proofs.Bools.{T_true, T_and, and_T}
 use Rattle.floor.specs.declared.Floor.{Floor}
-use Rattle.floor.specs.declared.Onward.TheVariants.{Enters, Nowhere}
 use Rattle.floor.specs.declared.Place.{Place}
 use Rattle.floor.specs.declared.Reason.{Reason}
 use Rattle.floor.specs.declared.Reason.TheVariants.{CutsCorner}
-use Rattle.floor.specs.declared.Step.{Step}
-use Rattle.floor.specs.declared.Step.TheVariants.{To, Barred}
 use Rattle.floor.specs.Direction.{is_diagonal}
 use Rattle.floor.specs.Place.{cells, place_of, cell_at, moved, corner, on_map, is_open}
-use Rattle.floor.specs.Step.{is_direction, target, step_cost, cuts_corner, entering, step_of, onward, is_to, allowed}
+use Rattle.floor.specs.Step.{step, is_direction, target, step_cost, cuts_corner, entering, step_of, onward, is_to, allowed}
 use Rattle.floor.specs.Allowed.{Allowed}
 use Rattle.floor.proofs.Places.{cell_of_place, cell_lt}
 
@@ -36,12 +35,12 @@ unfolding is_open
 open_weight f m p t = ltb→lt 0 (get_or m (cell_at f p) 0) (T_and (on_map f p) (ltb 0 (get_or m (cell_at f p) 0)) t).1
 
 -- a test of step_of that a step to somewhere has passed
-passed : (b : Bool) (r : Reason) (s : Step) → T (is_to (cond (not b) (Barred r) s)) → T b × T (is_to s)
+passed : (b : Bool) (r : Reason) (s : Result Step Reason) → T (is_to (cond (not b) (Err r) s)) → T b × T (is_to s)
 passed true r s t = (tt, t)
 passed false r s t = absurd t
 
 -- the last test is the other way round
-uncut : (diagonal sides : Bool) (r : Reason) (s : Step) → T (is_to (cond (diagonal && not sides) (Barred r) s)) → T diagonal → T sides
+uncut : (diagonal sides : Bool) (r : Reason) (s : Result Step Reason) → T (is_to (cond (diagonal && not sides) (Err r) s)) → T diagonal → T sides
 uncut true true r s t d = tt
 uncut true false r s t d = absurd t
 uncut false sides r s t d = absurd d
@@ -53,6 +52,15 @@ not_cut false sides k = refl
 
 pub open_inside : (f : Floor) (m : List ℕ) (v : ℕ) → T (is_open f m (place_of f v)) → v < cells f
 open_inside f m v t = rw (cell_of_place f v) at (cell_lt f (place_of f v) (open_on_map f m (place_of f v) t))
+
+-- the parts of a step that leads somewhere
+abbrev cell_in : Result Step Reason → ℕ
+cell_in (Ok s) = s.cell
+cell_in (Err r) = 0
+
+abbrev cost_in : Result Step Reason → ℕ
+cost_in (Ok s) = s.cost
+cost_in (Err r) = 0
 
 module _ (f : Floor) (m : List ℕ) (v d : ℕ) where
   pub allowed_is : T (allowed f m v d) → Allowed f m v d
@@ -69,11 +77,11 @@ module _ (f : Floor) (m : List ℕ) (v d : ℕ) where
         direction = a.0;
         here = c.0;
         there = e.0;
-        beside = λ q. T_and (is_open f m (corner there (place_of f v))) (is_open f m (corner (place_of f v) there)) (uncut (is_diagonal d) sides CutsCorner (To (target f v d) (step_cost m d v (target f v d))) e.1 q);
+        beside = λ q. T_and (is_open f m (corner there (place_of f v))) (is_open f m (corner (place_of f v) there)) (uncut (is_diagonal d) sides CutsCorner (Ok (step (target f v d) (step_cost m d v (target f v d)))) e.1 q);
       }
 
   -- where an allowed step leads and what it costs
-  pub step_is : Allowed f m v d → step_of f m v d ≡ To (target f v d) (step_cost m d v (target f v d))
+  pub step_is : Allowed f m v d → step_of f m v d ≡ Ok (step (target f v d) (step_cost m d v (target f v d)))
   unfolding step_of entering cuts_corner target
   step_is a =
       let there = moved (place_of f v) d in
@@ -88,14 +96,15 @@ module _ (f : Floor) (m : List ℕ) (v d : ℕ) where
       )
 
   -- and so what the step test says of a step that leads somewhere
-  pub leads : {w c : ℕ} → step_of f m v d ≡ To w c → Leads f m v d w c
+  pub leads : {w c : ℕ} → step_of f m v d ≡ Ok (step w c) → Leads f m v d w c
   unfolding allowed
   leads {w} {c} e =
       let t : T (allowed f m v d) = rw e tt in
       let s = step_is (allowed_is t) in
-      record { steps = t; to = cc; costs = cc }
+      let same = sym e ∙ s in
+      record { steps = t; to = ap cell_in same; costs = ap cost_in same }
 
-  pub leads_to : {w c : ℕ} → Leads f m v d w c → step_of f m v d ≡ To w c
+  pub leads_to : {w c : ℕ} → Leads f m v d w c → step_of f m v d ≡ Ok (step w c)
   leads_to l = rw (l.to, l.costs) (step_is (allowed_is l.steps))
 
   is_allowed : Allowed f m v d → T (allowed f m v d)
@@ -106,17 +115,17 @@ module _ (f : Floor) (m : List ℕ) (v d : ℕ) where
   allowed_words = (allowed_is, is_allowed)
 
   -- the same of a step without its reason
-  pub enters : {w c : ℕ} → onward (step_of f m v d) ≡ Enters w c → Leads f m v d w c
+  pub enters : {w c : ℕ} → onward (step_of f m v d) ≡ Some (step w c) → Leads f m v d w c
   enters {w} {c} e = leads (enters_to (step_of f m v d) e)
     where
-      enters_to : (s : Step) → onward s ≡ Enters w c → s ≡ To w c
-      enters_to (To x y) e = cc
-      enters_to (Barred r) e = let z : ◌≡◌ {A = ℕ} 0 1 = cc in absurd (omega arith)
+      enters_to : (s : Result Step Reason) → onward s ≡ Some (step w c) → s ≡ Ok (step w c)
+      enters_to (Ok x) e = cc
+      enters_to (Err r) e = let z : ◌≡◌ {A = ℕ} 0 1 = cc in absurd (omega arith)
 
-  pub nowhere : onward (step_of f m v d) ≡ Nowhere → T (allowed f m v d) → ⊥
+  pub nowhere : onward (step_of f m v d) ≡ None → T (allowed f m v d) → ⊥
   unfolding allowed
   nowhere e t = barred (step_of f m v d) e t
     where
-      barred : (s : Step) → onward s ≡ Nowhere → T (is_to s) → ⊥
-      barred (To x y) e t = let z : ◌≡◌ {A = ℕ} 0 1 = cc in omega arith
-      barred (Barred r) e t = absurd t
+      barred : (s : Result Step Reason) → onward s ≡ None → T (is_to s) → ⊥
+      barred (Ok x) e t = let z : ◌≡◌ {A = ℕ} 0 1 = cc in omega arith
+      barred (Err r) e t = absurd t

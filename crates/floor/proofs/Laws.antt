@@ -1,5 +1,6 @@
 -- The laws that callers cite: the floor is a lawful graph, a step can be taken back at its own cost, and the bounds 140, 1,782 and 1,868,560,650; from coordinates and the table.
-use mathlib.Core.Path.{◌≡◌, refl, sym, ◌∙◌, ap, subst}
+use Rattle.std.specs.Prelude.{Ok}
+use mathlib.Core.Path.{◌≡◌, sym, ◌∙◌, ap, subst}
 use mathlib.Core.Logic.{◌≢◌, ⊎_elim}
 use mathlib.Core.Bool.{◌&&◌, ◌||◌, not}
 use mathlib.Core.List.{List}
@@ -17,10 +18,9 @@ use Rattle.paths.proofs.Below.{every_at}
 use Rattle.paths.proofs.Meaning.{least_cost_most}
 use Rattle.floor.specs.declared.Floor.{Floor}
 use Rattle.floor.specs.declared.Place.{Place}
-use Rattle.floor.specs.declared.Step.TheVariants.{To}
 use Rattle.floor.specs.Direction.{row_of, east_of, south_of, opposite}
 use Rattle.floor.specs.Place.{cells, at, place_of, cell_at, moved, corner, is_open}
-use Rattle.floor.specs.Step.{is_direction, target, step_weight, least_step_weight, greatest_step_weight, step_cost, least_step, least_diagonal, greatest_step, greatest_cost, step_of, allowed, graph}
+use Rattle.floor.specs.Step.{step, is_direction, target, step_weight, least_step_weight, greatest_step_weight, step_cost, least_step, greatest_step, greatest_cost, step_of, allowed, graph}
 use Rattle.floor.specs.Allowed.{Allowed}
 use Rattle.floor.specs.Refusal.{HasPassed}
 use Rattle.floor.proofs.Passing.{MapFacts, facts, few_cells}
@@ -183,14 +183,14 @@ module _ (f : Floor) (m : List ℕ) where
   mirrored = record { back = step_back_allowed; home = step_back; same = step_back_cost }
 
   -- and as the step test says it
-  pub there_and_back : (v d : ℕ) {w c : ℕ} → step_of f m v d ≡ To w c → step_of f m w (opposite d) ≡ To v c
+  pub there_and_back : (v d : ℕ) {w c : ℕ} → step_of f m v d ≡ Ok (step w c) → step_of f m w (opposite d) ≡ Ok (step v c)
   there_and_back v d {w} {c} e =
       let l = leads f m v d e in
       let s = step_is f m (target f v d) (opposite d) (back_allowed f m v d (allowed_is f m v d l.steps)) in
       rw (l.to, l.costs) (rw (step_back_cost v d l.steps, step_back v d l.steps) at s)
 
   -- what a step costs, in 02's words
-  pub step_costs : (v d : ℕ) {w c : ℕ} → step_of f m v d ≡ To w c → c ≡ (row_of d).unit * (get_or m v 0 + get_or m w 0)
+  pub step_costs : (v d : ℕ) {w c : ℕ} → step_of f m v d ≡ Ok (step w c) → c ≡ (row_of d).unit * (get_or m v 0 + get_or m w 0)
   unfolding step_cost step_weight
   step_costs v d e = let l = leads f m v d e in l.costs ∙ rw l.to
 
@@ -213,7 +213,7 @@ module _ (f : Floor) (m : List ℕ) where
     }
 
     -- no step costs less than the least or more than the greatest
-    pub step_between : (v d : ℕ) {w c : ℕ} → step_of f m v d ≡ To w c → (least_step ≤ c) × (c ≤ greatest_step)
+    pub step_between : (v d : ℕ) {w c : ℕ} → step_of f m v d ≡ Ok (step w c) → (least_step ≤ c) × (c ≤ greatest_step)
     step_between v d e = let l = leads f m v d e in rw l.costs (lawful.at_least v d l.steps, lawful.at_most v d l.steps)
 
     -- no least cost is above the greatest cost

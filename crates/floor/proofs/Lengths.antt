@@ -1,4 +1,5 @@
 -- True lengths: a cost is 70 P + 99 Q, so twice its square is compared with T² coefficient by coefficient; two such comparisons chain through a number.
+use Rattle.std.specs.Prelude.{Ok}
 use mathlib.Core.Path.{◌≡◌, refl, subst}
 use mathlib.Core.Logic.{◌≢◌, ◌↔◌}
 use mathlib.Core.Bool.{Bool, true, false, cond}
@@ -14,11 +15,10 @@ use Rattle.paths.specs.Route.{walks, cost_of}
 use Rattle.paths.proofs.Below.{every_at}
 use Rattle.paths.proofs.Bools.{T_and}
 use Rattle.floor.specs.declared.Floor.{Floor}
-use Rattle.floor.specs.declared.Step.TheVariants.{To}
 use Rattle.floor.specs.Direction.{row_of, is_diagonal}
 use Rattle.floor.specs.Length.{Surd, surd, square, at_most, plus, times, squared, step_length, length_of}
 use Rattle.floor.specs.FourLines.{FourLines}
-use Rattle.floor.specs.Step.{step_weight, step_cost, target, step_of, allowed, graph}
+use Rattle.floor.specs.Step.{step, step_weight, step_cost, target, step_of, allowed, graph}
 use Rattle.floor.proofs.Allowed.{allowed_is, leads}
 use Rattle.floor.proofs.Rows.{direction_lt}
 
@@ -194,7 +194,7 @@ weight_within m d u v h = omega (arith, step_parts d (step_weight m u v) h, step
 
 module _ (f : Floor) (m : List ℕ) where
   -- what a step adds to a route's true length, in 02's words
-  pub length_step : (v d : ℕ) {w c : ℕ} (ds : List ℕ) → step_of f m v d ≡ To w c
+  pub length_step : (v d : ℕ) {w c : ℕ} (ds : List ℕ) → step_of f m v d ≡ Ok (step w c)
       → length_of f m v (d ∷ ds) ≡ plus (step_length d (get_or m v 0 + get_or m w 0)) (length_of f m w ds)
   unfolding step_weight
   length_step v d ds e = rw (leads f m v d e).to

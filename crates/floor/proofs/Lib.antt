@@ -12,3 +12,4 @@ pub mod Estimating
 pub mod Entering
 pub mod Lengths
 pub mod Questions
+pub mod Numbered

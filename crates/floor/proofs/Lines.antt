@@ -7,8 +7,7 @@ use Prim.Native.Nat.{ℕ, ◌≤◌, ◌<◌}
 use native.Mathlib.Omega.{arith}
 use lib.Dec.{T, ltb, ltb→lt}
 use Rattle.paths.proofs.Bools.{true_T, T_and}
-use Rattle.floor.specs.declared.Screen.{Screen}
-use Rattle.floor.specs.declared.Screen.TheVariants.{Refused}
+use Rattle.floor.specs.Screen.{Screen, Refused}
 use Rattle.floor.specs.Refusal.{Line, line, screen}
 use Rattle.floor.specs.LowestLine.{Has, IsLowestLine}
 

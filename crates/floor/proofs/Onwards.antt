@@ -1,24 +1,22 @@
 -- All steps of a cell by what stands around it: the tests of `step_of` that a step has passed are those of two weights, that of the cell left and the one ahead.
-use mathlib.Core.Path.{◌≡◌, refl, sym, ◌∙◌}
-use mathlib.Core.Bool.{Bool, true, false, cond, not, ◌&&◌, ◌||◌}
+use Rattle.std.specs.Prelude.{Some, None, Result, Err}
+use Rattle.floor.specs.declared.Step.{Step}
+use mathlib.Core.Path.{◌≡◌, refl, ◌∙◌}
+use mathlib.Core.Bool.{Bool, true, false, cond, not, ◌||◌}
 use mathlib.Core.List.{List}
-use Prim.Native.Nat.{ℕ, zero, suc, ◌+◌, ◌-◌, ◌*◌, ◌%◌, ◌≤◌, ◌<◌}
+use Prim.Native.Nat.{ℕ, ◌+◌, ◌-◌, ◌*◌, ◌%◌, ◌<◌}
 use native.Mathlib.Decide.{dec_lt}
 use native.Mathlib.Omega.{arith}
 use borrow.Author.Tests.{lt-ltb, le-ltb, eq-eqb, ne_eqb}
-use lib.Dec.{T, eqb, ltb}
+use lib.Dec.{T, eqb}
 use lib.ListN.{get_or, get_or-eq_default}
 use Rattle.paths.proofs.Bools.{T_true}
 use Rattle.floor.specs.declared.Around.{Around}
 use Rattle.floor.specs.declared.Floor.{Floor}
-use Rattle.floor.specs.declared.Onward.{Onward}
-use Rattle.floor.specs.declared.Onward.TheVariants.{Enters, Nowhere}
 use Rattle.floor.specs.declared.Reason.{Reason}
-use Rattle.floor.specs.declared.Step.{Step}
-use Rattle.floor.specs.declared.Step.TheVariants.{To, Barred}
 use Rattle.floor.specs.Direction.{row_of}
-use Rattle.floor.specs.Place.{cells, place_of, cell_at, moved, on_map, is_open}
-use Rattle.floor.specs.Step.{is_direction, step_weight, step_cost, cuts_corner, entering, step_of, onward}
+use Rattle.floor.specs.Place.{cells, place_of, cell_at, moved, on_map}
+use Rattle.floor.specs.Step.{step, is_direction, step_weight, step_cost, cuts_corner, entering, step_of, onward}
 use Rattle.floor.specs.Around.{weight_at, weight_beside, around_of, weight_ahead}
 use Rattle.floor.proofs.Passing.{MapFacts}
 use Rattle.floor.proofs.Places.{place_open}
@@ -80,11 +78,11 @@ module _ (f : Floor) (m : List ℕ) (v d : ℕ) where
 
 -- the step: nowhere if one of the two weights is 0, and else into the neighbour
 module _ {f : Floor} {m : List ℕ} (k : MapFacts f m) (v d : ℕ) where
-  pub no_direction_onward : is_direction f d ≡ false → Nowhere ≡ onward (step_of f m v d)
+  pub no_direction_onward : is_direction f d ≡ false → None ≡ onward (step_of f m v d)
   unfolding step_of
   no_direction_onward e = rw e
 
-  pub blocked_onward : is_direction f d ≡ true → get_or m v 0 ≡ 0 → Nowhere ≡ onward (step_of f m v d)
+  pub blocked_onward : is_direction f d ≡ true → get_or m v 0 ≡ 0 → None ≡ onward (step_of f m v d)
   unfolding step_of
   blocked_onward e z = elim (dec_lt v (cells f)) [
     | yes l ↦ rw (e, lt-ltb v (cells f) l, place_open k v l, z)
@@ -99,15 +97,15 @@ module _ {f : Floor} {m : List ℕ} (k : MapFacts f m) (v d : ℕ) where
         let l = weight_inside k v leaves in
         rw (t, lt-ltb v (cells f) l, place_open k v l, lt-ltb 0 (get_or m v 0) leaves)
 
-    pub barred_onward : weight_ahead f m v d ≡ 0 → Nowhere ≡ onward (step_of f m v d)
+    pub barred_onward : weight_ahead f m v d ≡ 0 → None ≡ onward (step_of f m v d)
     unfolding entering weight_ahead
     barred_onward e =
         let there = moved (place_of f v) d in
         rw (entered, open_weighs f m there)
         (nowhere (on_map f there) (cuts_corner f m d (place_of f v) there) (weight_at f m there) _ _ _ _ e)
       where
-        nowhere : (on cut : Bool) (w : ℕ) (r r' r'' : Reason) (s : Step) → cond cut 0 w ≡ 0
-            → Nowhere ≡ onward (cond (not on) (Barred r) (cond (not (not (eqb w 0))) (Barred r') (cond cut (Barred r'') s)))
+        nowhere : (on cut : Bool) (w : ℕ) (r r' r'' : Reason) (s : Result Step Reason) → cond cut 0 w ≡ 0
+            → None ≡ onward (cond (not on) (Err r) (cond (not (not (eqb w 0))) (Err r') (cond cut (Err r'') s)))
         nowhere false cut w r r' r'' s e = refl
         nowhere true true w r r' r'' s e = elim (dec_lt 0 w) [
           | yes l ↦ rw (ne_eqb w 0 (λ z. omega arith))
@@ -133,7 +131,7 @@ module _ {f : Floor} {m : List ℕ} (k : MapFacts f m) (v d : ℕ) where
       pub free_weight : weight_ahead f m v d ≡ get_or m (cell_at f (moved (place_of f v) d)) 0
       free_weight = uncut.1 ∙ there_weighs f m (moved (place_of f v) d) free_on_map
 
-      pub free_onward : Enters (cell_at f (moved (place_of f v) d)) ((row_of d).unit * (get_or m v 0 + weight_ahead f m v d)) ≡ onward (step_of f m v d)
+      pub free_onward : Some (step (cell_at f (moved (place_of f v) d)) ((row_of d).unit * (get_or m v 0 + weight_ahead f m v d))) ≡ onward (step_of f m v d)
       unfolding entering step_cost step_weight
       free_onward =
           let there = moved (place_of f v) d in

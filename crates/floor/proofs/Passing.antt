@@ -11,7 +11,7 @@ use borrow.Author.Tests.{eq-eqb, le-ltb, lt-ltb, le-leb}
 use lib.Dec.{T, eqb, leb, ltb, eqb→eq, leb→le, ltb→lt, lt→ltb, nltb→le}
 use lib.ListN.{length, get_or, get_or-eq_default}
 use Rattle.floor.specs.declared.Floor.{Floor}
-use Rattle.floor.specs.declared.Screen.TheVariants.{Passed}
+use Rattle.floor.specs.Screen.{Passed}
 use Rattle.floor.specs.Place.{greatest_side, greatest_weight, is_side, has_sides, cells}
 use Rattle.floor.specs.Refusal.{first_above, screen, map_lines, floor_lines, HasPassed}
 use Rattle.paths.proofs.Bools.{T_and, T-or, T_not-not}

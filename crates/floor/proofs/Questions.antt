@@ -8,8 +8,7 @@ use lib.Dec.{ltb, ltb→lt}
 use lib.ListN.{length, get_or}
 use Rattle.paths.proofs.Bools.{T_not-not, not_eqb_ne}
 use Rattle.floor.specs.declared.Floor.{Floor}
-use Rattle.floor.specs.declared.Screen.{Screen}
-use Rattle.floor.specs.declared.Screen.TheVariants.{Passed, Refused}
+use Rattle.floor.specs.Screen.{Screen, Passed, Refused}
 use Rattle.floor.specs.Place.{cells}
 use Rattle.floor.specs.Refusal.{Line, screen, floor_lines, ends_lines, question_lines, HasPassed}
 use Rattle.floor.proofs.Screens.{and_then, screen_append, none_given}

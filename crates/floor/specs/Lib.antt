@@ -6,6 +6,8 @@ pub mod Allowed
 pub mod Estimate
 pub mod Length
 pub mod FourLines
+pub mod Refusals
+pub mod Screen
 pub mod Refusal
 pub mod LowestLine
 pub mod Numbers

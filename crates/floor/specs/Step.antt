@@ -1,15 +1,11 @@
 -- Steps: which are allowed, where they lead and what they cost; the floor as a graph.
-use Rattle.std.specs.Prelude.{Bool, true, false, cond, not, ◌&&◌, ◌||◌, List, ℕ, ◌+◌, ◌-◌, ◌*◌, ◌%◌, eqb, ltb, get_or}
+use Rattle.std.specs.Prelude.{Bool, true, false, cond, not, ◌&&◌, ◌||◌, List, ℕ, ◌+◌, ◌-◌, ◌*◌, ◌%◌, eqb, ltb, get_or, Option, Some, None, Result, Ok, Err}
 use Rattle.paths.specs.Graph.{Graph}
 use Rattle.floor.specs.declared.Floor.{Floor}
-use Rattle.floor.specs.declared.Into.{Into}
-use Rattle.floor.specs.declared.Into.TheVariants.{From, Nothing}
-use Rattle.floor.specs.declared.Onward.{Onward}
-use Rattle.floor.specs.declared.Onward.TheVariants.{Enters, Nowhere}
 use Rattle.floor.specs.declared.Place.{Place}
+use Rattle.floor.specs.declared.Reason.{Reason}
 use Rattle.floor.specs.declared.Reason.TheVariants.{NoSuchDirection, LeftOffMap, LeftBlocked, LeavesMap, EntersBlocked, CutsCorner}
 use Rattle.floor.specs.declared.Step.{Step}
-use Rattle.floor.specs.declared.Step.TheVariants.{To, Barred}
 use Rattle.floor.specs.Direction.{row_of, is_diagonal, opposite}
 use Rattle.floor.specs.Place.{greatest_side, greatest_weight, cells, place_of, cell_at, moved, corner, on_map, is_open}
 
@@ -51,30 +47,34 @@ greatest_cost = (greatest_side * greatest_side - 1) * greatest_step
 unfoldable pub cuts_corner : Floor → List ℕ → ℕ → Place → Place → Bool
 cuts_corner f m d here there = is_diagonal d && not (is_open f m (corner there here) && is_open f m (corner here there))
 
+-- the cell at its other end, and what it costs
+abbrev pub step : ℕ → ℕ → Step
+step v c = record { cell = v; cost = c }
+
 -- the step from cell v, whose place is here, onto the place there
-unfoldable pub entering : Floor → List ℕ → ℕ → ℕ → Place → Place → Step
+unfoldable pub entering : Floor → List ℕ → ℕ → ℕ → Place → Place → Result Step Reason
 entering f m v d here there =
-    cond (not (on_map f there)) (Barred LeavesMap)
-    (cond (not (is_open f m there)) (Barred EntersBlocked)
-    (cond (cuts_corner f m d here there) (Barred CutsCorner)
-    (To (cell_at f there) (step_cost m d v (cell_at f there)))))
+    cond (not (on_map f there)) (Err LeavesMap)
+    (cond (not (is_open f m there)) (Err EntersBlocked)
+    (cond (cuts_corner f m d here there) (Err CutsCorner)
+    (Ok (step (cell_at f there) (step_cost m d v (cell_at f there))))))
 
 -- The step from cell v in direction d: where it leads and what it costs, or the first reason why it is not allowed
-unfoldable pub step_of : Floor → List ℕ → ℕ → ℕ → Step
+unfoldable pub step_of : Floor → List ℕ → ℕ → ℕ → Result Step Reason
 step_of f m v d =
-    cond (not (is_direction f d)) (Barred NoSuchDirection)
-    (cond (not (ltb v (cells f))) (Barred LeftOffMap)
-    (cond (not (is_open f m (place_of f v))) (Barred LeftBlocked)
+    cond (not (is_direction f d)) (Err NoSuchDirection)
+    (cond (not (ltb v (cells f))) (Err LeftOffMap)
+    (cond (not (is_open f m (place_of f v))) (Err LeftBlocked)
     (entering f m v d (place_of f v) (moved (place_of f v) d))))
 
 -- the same without the reason
-abbrev pub onward : Step → Onward
-onward (To v c) = Enters v c
-onward (Barred r) = Nowhere
+abbrev pub onward : Result Step Reason → Option Step
+onward (Ok s) = Some s
+onward (Err r) = None
 
-abbrev pub is_to : Step → Bool
-is_to (To v c) = true
-is_to (Barred r) = false
+abbrev pub is_to : Result Step Reason → Bool
+is_to (Ok s) = true
+is_to (Err r) = false
 
 unfoldable pub allowed : Floor → List ℕ → ℕ → ℕ → Bool
 allowed f m v d = is_to (step_of f m v d)
@@ -83,10 +83,10 @@ unfoldable pub target : Floor → ℕ → ℕ → ℕ
 target f v d = cell_at f (moved (place_of f v) d)
 
 -- The step in direction d that enters cell v: the cell that it leaves and what it costs, or that there is none
-unfoldable pub into_of : Floor → List ℕ → ℕ → ℕ → Into
+unfoldable pub into_of : Floor → List ℕ → ℕ → ℕ → Option Step
 into_of f m v d =
     let u = target f v (opposite d) in
-    cond (allowed f m u d && eqb (target f u d) v) (From u (step_cost m d u v)) Nothing
+    cond (allowed f m u d && eqb (target f u d) v) (Some (step u (step_cost m d u v))) None
 
 -- the floor as a graph
 abbrev pub graph : Floor → List ℕ → Graph

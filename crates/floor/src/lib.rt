@@ -3,8 +3,16 @@
 // specs/ says what they mean; docs/PROMISES.md has a row for each public function.
 #![tactic(auto)]
 
+ghost use Rattle.std.specs.Prelude.{◌≡◌};
+ghost use Rattle.floor.specs.Place.{floor_of};
+
 pub mod steps; // steps.rt: the step test
 pub mod neighbours; // neighbours.rt: what stands around a cell, and all its steps
+pub mod refusals; // refusals.rt: the refusals by name, with their numbers
+pub mod written; // written.rt: a writer's answer for callers from C
+
+pub use refusals::Refusal;
+pub use written::WrittenNumbers;
 
 // 01, as 02 R-7 has it: width and height are 1 to 1,024 each.
 pub const GREATEST_SIDE: usize = 1024;
@@ -18,6 +26,19 @@ pub struct Floor {
     pub width: usize,
     pub height: usize,
     pub ways: usize,
+}
+
+impl Floor {
+    // As callers from C give it: every number comes in at 32 bits and is widened, so that none is narrowed before it is judged.
+    pub fn of(width: u32, height: u32, ways: u32) -> Floor
+        ensures { result ≡ floor_of width height ways }
+    {
+        Floor {
+            width: width as usize,
+            height: height as usize,
+            ways: ways as usize,
+        }
+    }
 }
 
 // What a straight and a diagonal step cost for each unit of their weight: 99 / 70 is a little more than the root of 2.
@@ -121,30 +142,9 @@ pub enum Reason {
     CutsCorner,
 }
 
-// Where a step leads and what it costs, or that there is none.
+// A step: the cell at its other end, and what it costs.
 #[derive(Clone, Copy)]
-pub enum Step {
-    To(usize, u32),
-    Barred(Reason),
-}
-
-// The same without the reason, for those who take all steps of a cell and ask for none.
-#[derive(Clone, Copy)]
-pub enum Onward {
-    Enters(usize, u32),
-    Nowhere,
-}
-
-// The cell that a step leaves and what the step costs, or that there is none.
-#[derive(Clone, Copy)]
-pub enum Into {
-    From(usize, u32),
-    Nothing,
-}
-
-// Whether an input passed the refusals that were tried, or the refusal's number and place. `numbers_of` in specs/Numbers.antt.
-#[derive(Clone, Copy)]
-pub enum Screen {
-    Passed,
-    Refused(u32, usize),
+pub struct Step {
+    pub cell: usize,
+    pub cost: u32,
 }

@@ -9,7 +9,7 @@ ghost use Rattle.floor.specs.Refusal.{HasPassed};
 use crate::steps::{
     direction_at, is_direction, neighbour, place_of, step_cost, weight_beside, widened,
 };
-use crate::{Around, Floor, Into, Onward};
+use crate::{Around, Floor, Step};
 
 // Takes any cell number. It is no entry: its map has passed 1 to 4.
 pub fn around_of(f: Floor, map: &[u8], cell: usize) -> Around
@@ -40,20 +40,17 @@ pub fn around_of(f: Floor, map: &[u8], cell: usize) -> Around
 }
 
 // The weight of the neighbour in an even direction. Floor, map and cell are here for the contract, which says whose neighbour it is.
+#[tactic(auto, using(crate::proofs::Onwards::around_cell_lem))]
 fn straight(f: Floor, map: &[u8], cell: usize, around: Around, direction: usize) -> u32
     requires { (cell < cells f) × (around ≡ around_of f map.now cell) × (direction < 8) × (direction % 2 ≡ 0) }
     ensures { result ≡ weight_beside f map.now cell direction }
 {
-    if direction == 0 {
-        return around.north;
+    match direction {
+        0 => around.north,
+        2 => around.east,
+        4 => around.south,
+        _ => around.west,
     }
-    if direction == 2 {
-        return around.east;
-    }
-    if direction == 4 {
-        return around.south;
-    }
-    around.west
 }
 
 // The weight of the cell that a step enters, or 0. The cells beside a diagonal step lie in the two directions next to its own.
@@ -76,37 +73,49 @@ fn weight_ahead(f: Floor, map: &[u8], cell: usize, around: Around, direction: us
 }
 
 // The step from a cell by what stands around it. Takes any direction number. It is no entry either.
-pub fn step_onward(f: Floor, map: &[u8], cell: usize, around: Around, direction: usize) -> Onward
+pub fn step_onward(
+    f: Floor,
+    map: &[u8],
+    cell: usize,
+    around: Around,
+    direction: usize,
+) -> Option<Step>
     requires { HasPassed f map.now × (around ≡ around_of f map.now cell) }
     ensures { result ≡ onward (step_of f map.now cell direction) }
 {
     if is_direction(f, direction) {
         let left = around.weight;
         if left == 0 {
-            return Onward::Nowhere;
+            return None;
         }
         let entered = weight_ahead(f, map, cell, around, direction);
         if entered == 0 {
-            return Onward::Nowhere;
+            return None;
         }
         let d = direction_at(direction);
         let to = neighbour(f, cell, d);
-        return Onward::Enters(to, step_cost(left, entered, d));
+        return Some(Step {
+            cell: to,
+            cost: step_cost(left, entered, d),
+        });
     }
-    Onward::Nowhere
+    None
 }
 
 // The step that enters `cell` in a direction: it leaves the cell that the step back from `cell` enters, and costs the same. It is no entry either.
-pub fn step_into(f: Floor, map: &[u8], cell: usize, around: Around, direction: usize) -> Into
+#[tactic(auto, using(crate::proofs::Entering::no_direction, crate::proofs::Entering::into_back))]
+pub fn step_into(
+    f: Floor,
+    map: &[u8],
+    cell: usize,
+    around: Around,
+    direction: usize,
+) -> Option<Step>
     requires { HasPassed f map.now × (around ≡ around_of f map.now cell) }
     ensures { result ≡ into_of f map.now cell direction }
 {
     if 8 <= direction {
-        return Into::Nothing;
+        return None;
     }
-    let back = step_onward(f, map, cell, around, (direction + 4) % 8);
-    let Onward::Enters(from, cost) = back else {
-        return Into::Nothing;
-    };
-    Into::From(from, cost)
+    step_onward(f, map, cell, around, (direction + 4) % 8)
 }

@@ -10,17 +10,11 @@ ghost use Rattle.floor.specs.Refusal.{HasPassed};
 
 use crate::{DIRECTIONS, Direction, Floor, Place, Reason, Step};
 
+#[tactic(auto, unfolding(crate::specs::Step::is_direction))]
 pub(crate) fn is_direction(f: Floor, direction: usize) -> bool
     ensures { result ≡ is_direction f direction }
 {
-    if 8 <= direction {
-        return false;
-    }
-    let ways = f.ways;
-    if ways == 8 {
-        return true;
-    }
-    direction % 2 == 0
+    direction < 8 && (f.ways == 8 || direction % 2 == 0)
 }
 
 // A row of the table. By a match and no index: the rows are then constants of the code, where an index would have the whole table written to memory at each
@@ -47,13 +41,11 @@ fn shifted(n: usize, by: i32, stride: usize) -> usize
     requires { (stride ≤ n + plus_one by * stride) × (n ≤ MARK) × (stride ≤ MARK) × (plus_one by ≤ 2) }
     ensures { result ≡ n + plus_one by * stride - stride }
 {
-    if by == 0 {
-        return n;
+    match by {
+        0 => n,
+        1 => n + stride,
+        _ => n - stride,
     }
-    if by == 1 {
-        return n + stride;
-    }
-    n - stride
 }
 
 // Whether a column or a row of the map is still one, moved by -1, 0 or 1. Only the side that it moves to is looked at.
@@ -61,13 +53,11 @@ fn stays(n: usize, by: i32, side: usize) -> bool
     requires { (0 < n) × (n ≤ side) × (plus_one by ≤ 2) }
     ensures { result ≡ (ltb 0 (n + plus_one by - 1) && leb (n + plus_one by - 1) side) }
 {
-    if by == 0 {
-        return true;
+    match by {
+        0 => true,
+        1 => n < side,
+        _ => 1 < n,
     }
-    if by == 1 {
-        return n < side;
-    }
-    1 < n
 }
 
 // The one division. Public so that a place can be worked out once for many estimates or steps. It is no entry.
@@ -83,17 +73,16 @@ pub fn place_of(f: Floor, cell: usize) -> Place
 }
 
 // Whether one step on from a place of the map, by a row of the table, is on the map.
+#[tactic(auto, using(crate::proofs::Places::on_map_lem), unfolding(crate::specs::Place::on_map))]
 fn leads_to_map(f: Floor, here: Place, d: Direction) -> bool
     requires { T (on_map f here) × IsSmall d }
     ensures { result ≡ on_map f (moved_by here d) }
 {
-    if stays(here.column, d.dx, f.width) {
-        return stays(here.row, d.dy, f.height);
-    }
-    false
+    stays(here.column, d.dx, f.width) && stays(here.row, d.dy, f.height)
 }
 
 // The cell one step on, where that is on the map.
+#[tactic(auto, using(crate::proofs::Beside::offsets))]
 pub(crate) fn neighbour(f: Floor, cell: usize, d: Direction) -> usize
     requires { (cell + f.width < MARK) × IsSmall d × T (on_map f (moved_by (place_of f cell) d)) }
     ensures { result ≡ cell_at f (moved_by (place_of f cell) d) }
@@ -121,19 +110,14 @@ pub(crate) fn weight_beside(f: Floor, map: &[u8], cell: usize, here: Place, d: D
 }
 
 // The cells beside a diagonal step lie in the two directions next to its own.
+#[tactic(auto, using(crate::proofs::Beside::straight_uncut, crate::proofs::Beside::diagonal_cuts))]
 fn cuts_corner(f: Floor, map: &[u8], cell: usize, here: Place, direction: usize) -> bool
     requires { HasPassed f map.now × (cell < cells f) × (here ≡ place_of f cell) × (direction < 8) }
     ensures { result ≡ cuts_corner f map.now direction here (moved here direction) }
 {
-    if direction % 2 == 0 {
-        return false;
-    }
-    let before = direction_at(direction - 1);
-    if weight_beside(f, map, cell, here, before) == 0 {
-        return true;
-    }
-    let after = direction_at((direction + 1) % 8);
-    weight_beside(f, map, cell, here, after) == 0
+    direction % 2 == 1
+        && (weight_beside(f, map, cell, here, direction_at(direction - 1)) == 0
+            || weight_beside(f, map, cell, here, direction_at((direction + 1) % 8)) == 0)
 }
 
 // The weight of a step by the weights of the cell left and the cell entered, which are widened before they are added.
@@ -145,6 +129,7 @@ fn weight_between(left: u32, entered: u32) -> u32
 }
 
 // The weight of a step between two cells of the map, which is what it adds to P or to Q. It is no entry.
+#[tactic(auto, unfolding(crate::specs::Step::step_weight))]
 pub fn step_weight(map: &[u8], from: usize, to: usize) -> u32
     requires { (from < length map.now) × (to < length map.now) }
     ensures { result ≡ step_weight map.now from to }
@@ -161,7 +146,13 @@ pub(crate) fn step_cost(left: u32, entered: u32, d: Direction) -> u32
 }
 
 // The step test for a cell of the map and a direction of the floor, where the cell is open.
-fn step_from(f: Floor, map: &[u8], cell: usize, here: Place, direction: usize) -> Step
+fn step_from(
+    f: Floor,
+    map: &[u8],
+    cell: usize,
+    here: Place,
+    direction: usize,
+) -> Result<Step, Reason>
     requires { HasPassed f map.now × (cell < cells f) × (here ≡ place_of f cell) × T (is_direction f direction) }
     ensures { result ≡ entering f map.now cell direction here (moved here direction) }
 {
@@ -170,33 +161,42 @@ fn step_from(f: Floor, map: &[u8], cell: usize, here: Place, direction: usize) -
         let to = neighbour(f, cell, d);
         let entered = widened(map[to]);
         if entered == 0 {
-            return Step::Barred(Reason::EntersBlocked);
+            return Err(Reason::EntersBlocked);
         }
         if cuts_corner(f, map, cell, here, direction) {
-            return Step::Barred(Reason::CutsCorner);
+            return Err(Reason::CutsCorner);
         }
         let left = widened(map[cell]);
-        return Step::To(to, step_cost(left, entered, d));
+        return Ok(Step {
+            cell: to,
+            cost: step_cost(left, entered, d),
+        });
     }
-    Step::Barred(Reason::LeavesMap)
+    Err(Reason::LeavesMap)
 }
 
 // The step test for a cell of the map whose place is at hand. Takes any direction number. It is no entry: its map has passed 1 to 4.
-pub fn step_at(f: Floor, map: &[u8], cell: usize, here: Place, direction: usize) -> Step
+pub fn step_at(
+    f: Floor,
+    map: &[u8],
+    cell: usize,
+    here: Place,
+    direction: usize,
+) -> Result<Step, Reason>
     requires { HasPassed f map.now × (cell < cells f) × (here ≡ place_of f cell) }
     ensures { result ≡ step_of f map.now cell direction }
 {
     if is_direction(f, direction) {
         if map[cell] == 0 {
-            return Step::Barred(Reason::LeftBlocked);
+            return Err(Reason::LeftBlocked);
         }
         return step_from(f, map, cell, here, direction);
     }
-    Step::Barred(Reason::NoSuchDirection)
+    Err(Reason::NoSuchDirection)
 }
 
 // Takes any cell number and any direction number. It is no entry either.
-pub fn step_test(f: Floor, map: &[u8], cell: usize, direction: usize) -> Step
+pub fn step_test(f: Floor, map: &[u8], cell: usize, direction: usize) -> Result<Step, Reason>
     requires { HasPassed f map.now }
     ensures { result ≡ step_of f map.now cell direction }
 {
@@ -205,7 +205,7 @@ pub fn step_test(f: Floor, map: &[u8], cell: usize, direction: usize) -> Step
         return step_at(f, map, cell, here, direction);
     }
     if is_direction(f, direction) {
-        return Step::Barred(Reason::LeftOffMap);
+        return Err(Reason::LeftOffMap);
     }
-    Step::Barred(Reason::NoSuchDirection)
+    Err(Reason::NoSuchDirection)
 }

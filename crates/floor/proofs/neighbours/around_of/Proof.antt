@@ -1,5 +1,4 @@
 -- Off the map nothing stands around; on it each number is the weight that `around_of` names.
-use mathlib.Core.Path.{◌≡◌}
 use Prim.Native.Nat.{◌<◌}
 use native.Mathlib.Omega.{arith}
 use borrow.Author.Rules.{rules}

@@ -1,4 +1,5 @@
 -- Each return decides by one of the weights that `Onwards` names.
+use Rattle.std.specs.Prelude.{Option, Some}
 use mathlib.Core.Path.{◌≡◌, sym, ◌∙◌}
 use mathlib.Core.Bool.{true}
 use Prim.Native.Nat.{ℕ, ◌+◌, ◌*◌, ◌<◌}
@@ -6,12 +7,11 @@ use native.Mathlib.Omega.{arith}
 use borrow.Author.Rules.{rules}
 use lib.ListN.{get_or}
 use Rattle.paths.proofs.Bools.{true_T}
-use Rattle.floor.specs.declared.Onward.{Onward}
-use Rattle.floor.specs.declared.Onward.TheVariants.{Enters}
 use Rattle.floor.specs.Direction.{row_of}
 use Rattle.floor.specs.Place.{cells, place_of, cell_at, moved}
-use Rattle.floor.specs.Step.{is_direction}
-use Rattle.floor.specs.Around.{around_of, weight_ahead}
+use Rattle.floor.specs.declared.Step.{Step}
+use Rattle.floor.specs.Step.{step, is_direction}
+use Rattle.floor.specs.Around.{weight_ahead}
 use Rattle.floor.proofs.Passing.{MapFacts, facts, few_cells}
 use Rattle.floor.proofs.Rows.{direction_lt}
 use Rattle.floor.proofs.Onwards.{around_weight, weight_inside, no_direction_onward, blocked_onward, barred_onward, free_on_map, free_weight, free_onward}
@@ -88,7 +88,7 @@ step-cost-requires c κs =
       c.direction_at-d.ensures.1,
     )
 
-same_step : {w w' a a' b b' c : ℕ} {o : Onward} (u : ℕ) → w ≡ w' → c ≡ u * (a + b) → a ≡ a' → b ≡ b' → Enters w' (u * (a' + b')) ≡ o → Enters w c ≡ o
+same_step : {w w' a a' b b' c : ℕ} {o : Option Step} (u : ℕ) → w ≡ w' → c ≡ u * (a + b) → a ≡ a' → b ≡ b' → Some (step w' (u * (a' + b'))) ≡ o → Some (step w c) ≡ o
 same_step u e h p q o = rw (e, h, p, q) o
 
 returns-3 : tie.Need-returns-then-is_direction

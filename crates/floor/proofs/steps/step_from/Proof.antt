@@ -6,7 +6,7 @@ use native.Mathlib.Omega.{arith}
 use borrow.Author.Rules.{rules}
 use borrow.Author.Tests.{lt-ltb}
 use lib.Dec.{T}
-use lib.ListN.{length, get_or}
+use lib.ListN.{get_or}
 use Rattle.paths.proofs.Bools.{true_T}
 use Rattle.floor.specs.declared.Place.{Place}
 use Rattle.floor.specs.Place.{place_of, cell_at, moved, on_map, is_open}
