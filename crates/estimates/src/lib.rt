@@ -14,10 +14,7 @@ use floor::{Floor, LEAST_DIAGONAL, LEAST_STEP, Place};
 fn distance(a: usize, b: usize) -> u64
     ensures { result ≡ distance a b }
 {
-    if a < b {
-        return (b - a) as u64;
-    }
-    (a - b) as u64
+    a.abs_diff(b) as u64
 }
 
 fn octile(small: u64, large: u64) -> u64
@@ -28,6 +25,7 @@ fn octile(small: u64, large: u64) -> u64
 }
 
 // The goal's place is the caller's to work out, once for all cells. It is no entry.
+#[tactic(auto, unfolding(floor::specs::Estimate::estimate_to))]
 pub fn estimate(f: Floor, goal: Place, cell: usize) -> u64
     requires { (0 < f.width) × (cell < MARK) × IsNear goal }
     ensures value { result ≡ estimate_to f (place_of f cell) goal }
@@ -36,12 +34,8 @@ pub fn estimate(f: Floor, goal: Place, cell: usize) -> u64
     let here = place_of(f, cell);
     let x = distance(here.column, goal.column);
     let y = distance(here.row, goal.row);
-    let ways = f.ways;
-    if ways == 8 {
-        if x < y {
-            return octile(x, y);
-        }
-        return octile(y, x);
+    if f.ways == 8 {
+        return octile(x.min(y), x.max(y));
     }
     LEAST_STEP as u64 * (x + y)
 }
