@@ -1,2 +1,2 @@
-pub mod Looks
-pub mod Keys
+pub mod Listed
+pub mod Keeps

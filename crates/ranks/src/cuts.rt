@@ -11,18 +11,16 @@ pub fn key_of(cost: u32, cell: usize) -> u64
     requires { cell ≤ MARK }
     ensures { result ≡ cost * 4294967296 + cell }
 {
-    (cost as u64) * KEY_BASE + (cell as u64)
+    cost as u64 * KEY_BASE + cell as u64
 }
 
 // What a cell keeps when the costs are cut at a key.
+#[tactic(auto, unfolding(settling::specs::Cut::kept))]
 fn kept_cost(cost: u32, cell: usize, key: u64) -> u32
     requires { cell ≤ MARK }
     ensures { result ≡ kept cost cell key }
 {
-    if key_of(cost, cell) < key {
-        return cost;
-    }
-    MARK
+    if key_of(cost, cell) < key { cost } else { MARK }
 }
 
 // The cells from the key on lose their cost: those that were only seen, and those past the goal or the limit.
@@ -31,10 +29,7 @@ pub fn trim(costs: &mut [u32], key: u64)
     requires { length costs.old ≤ MARK }
     ensures { costs.new ≡ cut costs.old key }
 {
-    let mut cell = 0;
-    while cell < costs.len() {
-        let cost = costs[cell];
-        costs[cell] = kept_cost(cost, cell, key);
-        cell += 1;
+    for (cell, cost) in costs.iter_mut().enumerate() {
+        *cost = kept_cost(*cost, cell, key);
     }
 }
