@@ -1,3 +1,3 @@
 pub mod Giving
-pub mod Turning
 pub mod WalksBack
+pub mod Turning

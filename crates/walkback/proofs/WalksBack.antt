@@ -1,13 +1,14 @@
 -- The walk back on a floor: `last_step` takes the step that the walk over the graph takes, the route is written backwards, and what its steps weigh is summed.
+use Rattle.std.specs.Prelude.{Option, Some, None, IsSome}
 use mathlib.Core.Path.{◌≡◌, refl, sym, ◌∙◌, ap, subst}
 use mathlib.Core.Logic.{◌≢◌}
-use mathlib.Core.List.{List, [], ◌∷◌, ◌++◌, append_assoc, reverse, reverse-reverse}
+use mathlib.Core.List.{List, [], ◌∷◌, ◌++◌, append_assoc, reverse}
 use Prim.Native.Nat.{ℕ, suc, ◌+◌, ◌≤◌, ◌<◌}
 use native.Mathlib.Omega.{arith}
 use native.Mathlib.Numerals.{add-one}
 use native.Mathlib.Nat.{add_comm}
-use lib.ListN.{length, get_or, set, take, drop, length-append, length-reverse, length-set}
-use lib.Seq.{drop-cons, set_at, take-append_seam, drop-append_seam}
+use lib.ListN.{length, get_or, set, drop, length-append, length-reverse, length-set}
+use lib.Seq.{drop-cons, set_at}
 use Rattle.paths.specs.Graph.{MARK}
 use Rattle.paths.specs.First.{last_step}
 use Rattle.paths.proofs.Firsts.{reverse_snoc}
@@ -20,7 +21,7 @@ use Rattle.floor.specs.Length.{surd, step_length, length_of, route_length}
 use Rattle.floor.proofs.Laws.{lawful, least_cost_bound}
 use Rattle.floor.proofs.Lengths.{step_summed, weight_within}
 use Rattle.walkback.specs.declared.Back.{Back}
-use Rattle.walkback.specs.Walks.{HasCosts, IsLast, longer_by, CanWalk}
+use Rattle.walkback.specs.Walks.{HasCosts, IsLastStep, IsLast, longer_by, CanWalk}
 
 -- One step more, as `last_step` found it
 pub record WalksOn (f : Floor) (m : List ℕ) (s goal : ℕ) (costs : List ℕ) (v : ℕ) (ds : List ℕ) (r : Back) : Type 0 where
@@ -47,20 +48,25 @@ module _ {f : Floor} {m : List ℕ} {s goal : ℕ} {costs : List ℕ} (can : Can
     pub has_costs : HasCosts f m costs v
     has_costs = record { passed = can.passed; covers = can.covers; inside = w.inside }
 
-    pub walk_goes : v ≢ s → {r : Back} → IsLast f m costs v r → WalksOn f m s goal costs v ds r
-    walk_goes n {r} l =
+    -- every cell of the walk but the start has got its cost by some step
+    pub walk_finds : v ≢ s → (o : Option Back) → IsLast f m costs v o → IsSome o
+    walk_finds n None l = absurd (omega (arith, l, (walking_goes w (lawful f m can.passed) can.starts n).numbered))
+    walk_finds n (Some r) l = refl
+
+    pub walk_goes : v ≢ s → {o : Option Back} {r : Back} → o ≡ Some r → IsLast f m costs v o → WalksOn f m s goal costs v ds r
+    walk_goes n {o} {r} e last =
+        let l : IsLastStep f m costs v r = rw e at last in
         let g = graph f m in
         let law = lawful f m can.passed in
         let d = last_step g costs v in
         let x = walking_goes w law can.starts n in
-        let small : r.direction < 8 = rw l.direction x.numbered in
-        let from : r.from ≡ g.from v d = l.from small ∙ ap (g.from v) l.direction in
+        let from : r.from ≡ g.from v d = l.from ∙ ap (g.from v) l.direction in
         record {
           next = rw (l.direction, from) x.next;
           lands = rw (l.direction, from) x.lands;
           pays = rw (l.direction, from) (subst (λ (w : ℕ). get_or costs (g.from v d) 0 + step_cost m d (g.from v d) w ≡ get_or costs v 0) x.lands x.sum);
           less = rw from x.less;
-          small = small;
+          small = l.below;
           inside = omega (arith, w.fits, w.enough);
           few = omega (arith, w.fits, w.enough, law.cells_fit);
         }
@@ -116,19 +122,3 @@ walk_measured {f} {m} {s} {goal} {costs} {room} {route} {v} {l} {ds} z here e =
     let sums : length_of f m s ds ≡ surd l.p l.q = rw (← here, e) z.summed in
     let steps : length ds ≡ l.steps = ap length e ∙ length-reverse z.ds ∙ z.counted in
     rw (steps, sums) refl
-
--- what was written backwards has room in the room
-pub back_fits : (ds room back : List ℕ) (n : ℕ) → n ≡ length ds → back ≡ reverse ds ++ drop n room → n ≤ length back
-back_fits ds room back n e w = omega (arith, ap length w, length-append (reverse ds) (drop n room), length-reverse ds)
-
-parts : (xs ys : List ℕ) (n : ℕ) → length xs ≡ n → (take n (xs ++ ys) ≡ xs) × (drop n (xs ++ ys) ≡ ys)
-parts xs ys n e = rw (← e) (take-append_seam xs ys, drop-append_seam xs ys)
-
--- what was written backwards, turned round, is the route
-pub turned_round : (ds room back route : List ℕ) (n : ℕ) → n ≡ length ds → back ≡ reverse ds ++ drop n room
-    → route ≡ reverse (take n back) ++ drop n back → route ≡ ds ++ drop n room
-turned_round ds room back route n e w r =
-    let p = parts (reverse ds) (drop n room) n (length-reverse ds ∙ sym e) in
-    let t : take n back ≡ reverse ds = ap (take n) w ∙ p.0 in
-    let d : drop n back ≡ drop n room = ap (drop n) w ∙ p.1 in
-    r ∙ rw (t, d, reverse-reverse ds)

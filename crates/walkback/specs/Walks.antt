@@ -1,11 +1,10 @@
 -- What the walk back from a goal needs and answers.
-use Rattle.std.specs.Prelude.{◌≡◌, List, ℕ, ◌+◌, ◌<◌, T, length, get_or}
+use Rattle.std.specs.Prelude.{◌≡◌, Option, Some, None, List, ℕ, ◌+◌, ◌<◌, T, length, get_or}
 use Rattle.paths.specs.Table.{Right, offer}
 use Rattle.paths.specs.First.{meets, last_step}
 use Rattle.settling.specs.Estimate.{Consistent, AgreeBy, Near}
 use Rattle.floor.specs.declared.Floor.{Floor}
-use Rattle.floor.specs.declared.Into.{Into}
-use Rattle.floor.specs.declared.Into.TheVariants.{From, Nothing}
+use Rattle.floor.specs.declared.Step.{Step}
 use Rattle.floor.specs.declared.RouteLength.{RouteLength}
 use Rattle.floor.specs.Place.{cells}
 use Rattle.floor.specs.Step.{graph}
@@ -23,14 +22,19 @@ pub record HasCosts (f : Floor) (m costs : List ℕ) (v : ℕ) : Type 0 where
 unfoldable pub Giving : Floor → List ℕ → List ℕ → ℕ → ℕ → Type 0
 Giving f m costs v d = T (meets (offer (graph f m) costs v d) (get_or costs v 0))
 
-abbrev pub Gives : Floor → List ℕ → List ℕ → ℕ → ℕ → Into → Type 0
-Gives f m costs v d (From u c) = Giving f m costs v d × (u ≡ (graph f m).from v d)
-Gives f m costs v d Nothing = Giving f m costs v d → ⊥
+abbrev pub Gives : Floor → List ℕ → List ℕ → ℕ → ℕ → Option Step → Type 0
+Gives f m costs v d (Some s) = Giving f m costs v d × (s.cell ≡ (graph f m).from v d)
+Gives f m costs v d None = Giving f m costs v d → ⊥
 
--- the last step of the first route to v, and the cell that it leaves
-pub record IsLast (f : Floor) (m costs : List ℕ) (v : ℕ) (r : Back) : Type 0 where
+-- the last step of the first route to v, and the cell that it leaves; there is none if no direction below 8 gives v its cost
+pub record IsLastStep (f : Floor) (m costs : List ℕ) (v : ℕ) (r : Back) : Type 0 where
   pub direction : r.direction ≡ last_step (graph f m) costs v
-  pub from : r.direction < 8 → r.from ≡ (graph f m).from v r.direction
+  pub below : r.direction < 8
+  pub from : r.from ≡ (graph f m).from v r.direction
+
+abbrev pub IsLast : Floor → List ℕ → List ℕ → ℕ → Option Back → Type 0
+IsLast f m costs v (Some r) = IsLastStep f m costs v r
+IsLast f m costs v None = last_step (graph f m) costs v ≡ 8
 
 -- how long a route is with a step before it, of that true length
 abbrev pub longer_by : Surd → RouteLength → RouteLength

@@ -11,9 +11,10 @@ ghost use Rattle.walkback.specs.Walks.{HasCosts, Gives, IsLast, longer_by, CanWa
 
 use crate::Back;
 use floor::steps::step_weight;
-use floor::{Around, Floor, Into, MARK, RouteLength};
+use floor::{Around, Floor, MARK, RouteLength, Step};
 
 // The step into `cell` in a direction, if it gives the cell its cost. The sum has 64 bits, so that it can't wrap.
+#[tactic(auto, using(floor::proofs::Entering::offer_into, floor::proofs::Entering::into_cell, crate::proofs::Giving::gives_cost, crate::proofs::Giving::gives_from), unfolding(crate::specs::Walks::Giving))]
 fn giving_step(
     f: Floor,
     map: &[u8],
@@ -21,46 +22,38 @@ fn giving_step(
     cell: usize,
     around: Around,
     direction: usize,
-) -> Into
+) -> Option<Step>
     requires { HasCosts f map.now costs.now cell × (around ≡ around_of f map.now cell) }
     ensures { Gives f map.now costs.now cell direction result }
 {
-    let step = floor::neighbours::step_into(f, map, cell, around, direction);
-    let Into::From(from, cost) = step else {
-        return Into::Nothing;
-    };
-    let before = costs[from];
-    if before == MARK {
-        return Into::Nothing;
+    let step = floor::neighbours::step_into(f, map, cell, around, direction)?;
+    let before = costs[step.cell];
+    if before != MARK && before as u64 + step.cost as u64 == costs[cell] as u64 {
+        return Some(step);
     }
-    let sum = (before as u64) + (cost as u64);
-    if sum == costs[cell] as u64 {
-        return Into::From(from, cost);
-    }
-    Into::Nothing
+    None
 }
 
-// The lowest direction of a step that gives `cell` its cost, or 8 if none does.
-fn last_step(f: Floor, map: &[u8], costs: &[u32], cell: usize) -> Back
+// The step of the lowest direction that gives `cell` its cost.
+#[tactic(auto, using(paths::proofs::Below::lowest_next), unfolding(crate::specs::Walks::Giving))]
+fn last_step(f: Floor, map: &[u8], costs: &[u32], cell: usize) -> Option<Back>
     requires { HasCosts f map.now costs.now cell }
     ensures { IsLast f map.now costs.now cell result }
 {
     let around = floor::neighbours::around_of(f, map, cell);
-    let mut direction = 0;
-    while direction < 8 {
-        let step = giving_step(f, map, costs, cell, around, direction);
-        if let Into::From(from, _) = step {
-            return Back { direction, from };
+    for direction in 0..8 {
+        if let Some(step) = giving_step(f, map, costs, cell, around, direction) {
+            return Some(Back {
+                direction,
+                from: step.cell,
+            });
         }
-        direction += 1;
     }
-    Back {
-        direction,
-        from: cell,
-    }
+    None
 }
 
 // How long a route is with one step more: its weight is summed in P if it is straight, in Q if it is diagonal.
+#[tactic(auto, using(floor::proofs::Lengths::step_straight, floor::proofs::Lengths::step_diagonal))]
 fn longer(summed: RouteLength, direction: usize, weight: u32) -> RouteLength
     requires { (summed.steps < MARK) × (summed.p + summed.q + weight ≤ MARK) }
     ensures { result ≡ longer_by (step_length direction weight) summed }
@@ -100,30 +93,23 @@ fn write_back(
         q: 0,
     };
     while cell != start {
-        let step = last_step(f, map, costs, cell);
-        let direction = step.direction;
-        let from = step.from;
-        let at = length.steps;
-        route[at] = direction as u8;
-        length = longer(length, direction, step_weight(map, from, cell));
-        cell = from;
+        // every cell of the walk but the start has got its cost by some step
+        let back = last_step(f, map, costs, cell).unwrap();
+        route[length.steps] = back.direction as u8;
+        length = longer(length, back.direction, step_weight(map, back.from, cell));
+        cell = back.from;
     }
     length
 }
 
-// Turns round the first steps in a route's room, by exchanges from both ends: a long route takes no more of the stack than a short one.
+// Turns round the first steps in a route's room. By exchanges, and not by the slice's own `reverse`, which takes more of the stack for 16 bytes and more: a long
+// route takes no more of it than a short one (docs/C.md, "How deep the stack gets").
 fn turn_round(route: &mut [u8], steps: usize)
     requires { steps ≤ length route.old }
     ensures { route.new ≡ reverse (take steps route.old) ++ drop steps route.old }
 {
-    let mut low = 0;
-    let mut high = steps;
-    while 2 <= high - low {
-        high -= 1;
-        let first = route[low];
-        route[low] = route[high];
-        route[high] = first;
-        low += 1;
+    for low in 0..steps / 2 {
+        route.swap(low, steps - 1 - low);
     }
 }
 
@@ -141,7 +127,6 @@ pub fn write_route(
     ensures written { route.new ≡ first_route (graph f map.now) start costs.now goal ++ drop result.steps route.old }
 {
     let length = write_back(f, map, costs, start, goal, route);
-    let steps = length.steps;
-    turn_round(route, steps);
+    turn_round(route, length.steps);
     length
 }

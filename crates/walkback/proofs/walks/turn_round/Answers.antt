@@ -1,13 +1,10 @@
--- Each exchange goes on with what is turned round, and when at most one byte is left, all are.
+-- When at most one step stands between those that have changed places, all are turned round.
 use native.Mathlib.Omega.{arith}
-use Rattle.walkback.proofs.Turning.{turning_begins, turning_goes, turning_ends}
+use Rattle.walkback.proofs.Turning.{turned, all_turned}
 use Rattle.walkback.proofs.walks.turn_round.Goals as goal
 
-pub loop-high-init : goal.loop-high-init
-loop-high-init c = turning_begins c.args.route.now c.args.steps c.requires
-
-pub loop-high-preserved : goal.loop-high-preserved
-loop-high-preserved c = turning_goes c.loop-high.invariant (omega arith)
-
 pub returns : goal.returns
-returns c = turning_ends c.loop-high.invariant (omega arith)
+returns c =
+    let l = c.loop-low in
+    let i = l.invariant in
+    turned c.args.route.now l.route c.args.steps i.same_length c.requires (all_turned c.args.route.now l.route c.args.steps l.low (omega arith) i.outside i.between) i.after
