@@ -6,10 +6,9 @@ use Rattle.floor.specs.declared.Floor.{Floor}
 use Rattle.floor.specs.declared.RouteLength.{RouteLength}
 use Rattle.floor.specs.Step.{graph}
 use Rattle.floor.specs.Length.{route_length}
-use Rattle.answering.specs.declared.Answer.{Answer}
-use Rattle.answering.specs.declared.Answer.TheVariants.{Found, None, Stopped}
+use Rattle.answering.specs.Answer.{Answer, Found, None, Stopped}
 use Rattle.answering.specs.declared.AnswerNumbers.{AnswerNumbers}
-use Rattle.answering.specs.Question.{Question}
+use Rattle.answering.specs.declared.Question.{Question}
 
 -- the row of 01's table that the right table of the start gives
 abbrev pub row_of : Floor → List ℕ → Question → List ℕ → Row

@@ -1,3 +1,4 @@
 pub mod Question
+pub mod Answer
 pub mod Answers
 pub mod Rooms

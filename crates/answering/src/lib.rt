@@ -7,15 +7,21 @@ pub mod rooms; // rooms.rt: refusals 1 to 11, and a room filled
 
 use floor::RouteLength;
 
-// What a search answers: 01's table.
+// What a search with a limit is asked.
 #[derive(Clone, Copy)]
-pub enum Answer {
-    // the refusal's number and place
-    Refused(u32, usize),
+pub struct Question {
+    pub start: usize,
+    pub goal: usize,
+    pub limit: usize,
+}
+
+// What a search that is not refused comes to: 01's table.
+#[derive(Clone, Copy)]
+pub enum Outcome {
     // settled, the goal's least cost, how long the route is
     Found(usize, u32, RouteLength),
     // settled
-    None(usize),
+    NoRoute(usize),
     // settled, the floor
     Stopped(usize, u32),
 }

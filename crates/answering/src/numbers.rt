@@ -1,9 +1,10 @@
 // An answer as the paper's numbers.
 ghost use Rattle.std.specs.Prelude.{◌≡◌};
+ghost use Rattle.answering.specs.Answer.{answer_of};
 ghost use Rattle.answering.specs.Answers.{without_route, numbers_of};
 
-use crate::{Answer, AnswerNumbers};
-use floor::MARK;
+use crate::{AnswerNumbers, Outcome};
+use floor::{MARK, Refusal};
 
 // 02, R-6: P and Q are 0 for every answer but found, as the route's length is.
 fn without_route(kind: u64, refusal: u64, place: u64, settled: u64, number: u64) -> AnswerNumbers
@@ -21,12 +22,12 @@ fn without_route(kind: u64, refusal: u64, place: u64, settled: u64, number: u64)
     }
 }
 
-pub fn numbers_of(answer: Answer) -> AnswerNumbers
-    ensures { result ≡ numbers_of answer }
+pub fn numbers_of(answer: Result<Outcome, Refusal>) -> AnswerNumbers
+    ensures { result ≡ numbers_of (answer_of answer) }
 {
     match answer {
-        Answer::Refused(number, place) => without_route(0, number as u64, place as u64, 0, 0),
-        Answer::Found(settled, cost, route) => AnswerNumbers {
+        Err(refusal) => without_route(0, refusal.number() as u64, refusal.place() as u64, 0, 0),
+        Ok(Outcome::Found(settled, cost, route)) => AnswerNumbers {
             kind: 1,
             refusal: 0,
             place: 0,
@@ -36,7 +37,9 @@ pub fn numbers_of(answer: Answer) -> AnswerNumbers
             p: route.p as u64,
             q: route.q as u64,
         },
-        Answer::None(settled) => without_route(2, 0, 0, settled as u64, MARK as u64),
-        Answer::Stopped(settled, cost) => without_route(3, 0, 0, settled as u64, cost as u64),
+        Ok(Outcome::NoRoute(settled)) => without_route(2, 0, 0, settled as u64, MARK as u64),
+        Ok(Outcome::Stopped(settled, cost)) => {
+            without_route(3, 0, 0, settled as u64, cost as u64)
+        }
     }
 }
