@@ -1,4 +1,5 @@
 -- One step from a cell of the band: where it leads is put into the laws of the wave, and the lists into the work room.
+use Rattle.std.specs.Prelude.{Some, None}
 use mathlib.Core.Path.{◌≡◌, ◌∙◌}
 use mathlib.Core.Logic.{inl, inr, ⊎_elim}
 use mathlib.Core.List.{List, [], ◌∷◌, ◌++◌}
@@ -12,9 +13,8 @@ use Rattle.paths.specs.Graph.{Lawful, MARK}
 use Rattle.settling.specs.Wave.{occ, Wave, Taking}
 use Rattle.settling.proofs.Waves.{mark_is, below_least, least_fits, next_inside, next_near, offer_known, offer_new, take_none, take_falls}
 use Rattle.floor.specs.declared.Floor.{Floor}
-use Rattle.floor.specs.declared.Onward.TheVariants.{Enters, Nowhere}
 use Rattle.floor.specs.Place.{cells}
-use Rattle.floor.specs.Step.{target, step_cost, least_step, greatest_step, step_of, onward, allowed, graph}
+use Rattle.floor.specs.Step.{step, target, step_cost, least_step, greatest_step, step_of, onward, allowed, graph}
 use Rattle.floor.proofs.Allowed.{enters, nowhere}
 use Rattle.floor.proofs.Laws.{lawful}
 use Rattle.wave.specs.Bands.{CanSee, Seen, no_less, known, new, Halves, InBand, TakingAt}
@@ -74,7 +74,7 @@ module _ {f : Floor} {m : List ℕ} {s bound at stop other : ℕ} {costs work : 
   stays k = record { band = x.band; before = x.before; first = x.first; taking = rw add-one k }
 
   -- the step is not allowed
-  pub barred : onward (step_of f m cell d) ≡ Nowhere → TakingAt f m s bound at stop other costs work end cell (d + 1)
+  pub barred : onward (step_of f m cell d) ≡ None → TakingAt f m s bound at stop other costs work end cell (d + 1)
   barred e = stays (take_none law s x.taking (λ t. absurd (nowhere f m cell d e t)))
 
   module _ (t : T (allowed f m cell d)) where
@@ -128,7 +128,7 @@ module _ {f : Floor} {m : List ℕ} {s bound at stop other : ℕ} {costs work : 
         lowered p.halves (p.first x.before ∙ x.first) (rw (p.band, p.later) k)
 
   -- the step leads to a cell, which sees it
-  module _ (to cost : ℕ) (e : onward (step_of f m cell d) ≡ Enters to cost) where
+  module _ (to cost : ℕ) (e : onward (step_of f m cell d) ≡ Some (step to cost)) where
     pub sees : CanSee costs work end to (get_or costs cell 0 + cost)
     sees = let l = enters f m cell d e in rw (← l.costs, ← l.to) at (can_see l.steps)
 

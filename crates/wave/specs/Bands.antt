@@ -1,6 +1,7 @@
 -- What the functions of the wave need and keep. The work room has two halves, each as long as the floor has cells: in one stands the band at
 -- hand, from place `at` to place `stop`, in the other those that wait for a later one, from `other` to `end`.
 use Rattle.std.specs.Prelude.{◌≡◌, ◌≢◌, ◌⊎◌, true, false, List, [], ℕ, ◌+◌, ◌-◌, ◌*◌, ◌≤◌, ◌<◌, length, get_or, set, replicate}
+use Rattle.std.specs.List.{between}
 use Rattle.std.proofs.Math.Seq.{slice}
 use Rattle.paths.specs.Graph.{MARK}
 use Rattle.paths.specs.Table.{Right}
@@ -11,7 +12,7 @@ use Rattle.floor.specs.declared.Floor.{Floor}
 use Rattle.floor.specs.Place.{cells}
 use Rattle.floor.specs.Step.{least_step, greatest_step, graph}
 use Rattle.floor.specs.Refusal.{HasPassed}
-use Rattle.ranks.specs.Listed.{AmongCells, IsLeast, below_in}
+use Rattle.ranks.specs.Listed.{AreCells, IsLeast, below_in}
 use Rattle.wave.specs.declared.Front.{Front}
 use Rattle.wave.specs.declared.Band.{Band}
 
@@ -121,20 +122,25 @@ pub record ScannedAt (f : Floor) (m : List ℕ) (s : ℕ) (b : Band) (costs' wor
 abbrev pub Scanned : Floor → List ℕ → List ℕ → List ℕ → Band → List ℕ → List ℕ → Front → Type 0
 Scanned f m costs work b costs' work' o = (s : ℕ) → ScanAt f m s costs work b → ScannedAt f m s b costs' work' o
 
+-- the open cells that a front lists: that part of the work room
+abbrev pub listed : List ℕ → Front → List ℕ
+listed work o = between o.from (o.from + o.len) work
+
 pub record CanLook (costs work : List ℕ) (goal : ℕ) (o : Front) : Type 0 where
   pub inside : goal < length costs
-  pub among : AmongCells (length costs) work o.from o.len
-  pub fits : (low : ℕ) → IsLeast costs work o.from o.len low → low + greatest_step ≤ MARK
+  pub room : o.from + o.len ≤ length work
+  pub are_cells : AreCells (length costs) (listed work o)
+  pub fits : (low : ℕ) → IsLeast costs (listed work o) low → low + greatest_step ≤ MARK
   pub small : o.settled + o.len ≤ MARK
 
 -- The next band: it begins at the least cost of the open cells and is no wider than the least step, so that none of its cells can still get cheaper
 pub record IsBand (costs work : List ℕ) (o : Front) (b : Band) : Type 0 where
   pub front : b.front ≡ o
   pub low : ℕ
-  pub least : IsLeast costs work o.from o.len low
+  pub least : IsLeast costs (listed work o) low
   pub above : low < b.bound
   pub narrow : b.bound ≤ low + least_step
-  pub below : b.below ≡ below_in costs work o.from o.len b.bound
+  pub below : b.below ≡ below_in costs (listed work o) b.bound
 
 -- a look: no cell is open; or the goal or the limit falls in the next band; or neither does, and its steps are to be taken
 pub data Looked (costs work : List ℕ) (goal limit : ℕ) (o : Front) (b : Band) : Type 0 where

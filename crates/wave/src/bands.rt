@@ -7,8 +7,7 @@ ghost use Rattle.floor.specs.Refusal.{HasPassed};
 ghost use Rattle.wave.specs.Bands.{Begun, CanSee, Seen, CanTake, Took, CanTakeAll, CanVisit, Visited, CanScan, Scanned, CanLook, Looked, CanGoOn, GoneOn, Rounds};
 
 use crate::{Band, Front};
-use answering::rooms::fill;
-use floor::{Around, Floor, LEAST_STEP, MARK, Onward};
+use floor::{Around, Floor, LEAST_STEP, MARK};
 use ranks::lists::{count_below, least_cost};
 
 // Only the start has a cost, and it is the only open cell.
@@ -16,7 +15,7 @@ fn begin(costs: &mut [u32], work: &mut [u32], start: usize) -> Front
     requires { (start < length costs.old) × (length costs.old ≤ length work.old) × (start ≤ MARK) }
     ensures { Begun (length costs.old) start costs.new work.new result }
 {
-    fill(costs, MARK);
+    costs.fill(MARK);
     costs[start] = 0;
     work[0] = start as u32;
     Front {
@@ -58,12 +57,11 @@ fn take_step(
     requires { CanTake f map.now costs.old work.old end cell direction × (around ≡ around_of f map.now cell) }
     ensures { Took f map.now costs.old work.old end cell direction (direction + 1) costs.new work.new result }
 {
-    let step = floor::neighbours::step_onward(f, map, cell, around, direction);
-    let Onward::Enters(to, cost) = step else {
+    let Some(step) = floor::neighbours::step_onward(f, map, cell, around, direction) else {
         return end;
     };
-    let base = costs[cell];
-    see(costs, work, end, to, base + cost)
+    let cost = costs[cell] + step.cost;
+    see(costs, work, end, step.cell, cost)
 }
 
 // All steps from a cell of the band. The limit is here for the contract, which asks that the cell is within it.
@@ -81,10 +79,8 @@ fn take_steps(
 {
     let around = floor::neighbours::around_of(f, map, cell);
     let mut last = end;
-    let mut direction = 0;
-    while direction < 8 {
+    for direction in 0..8 {
         last = take_step(f, map, costs, work, last, cell, around, direction);
-        direction += 1;
     }
     last
 }
@@ -124,20 +120,15 @@ fn scan(
     ensures { Scanned f map.now costs.old work.old band costs.new work.new result }
 {
     let front = band.front;
-    let bound = band.bound;
-    let first = front.from;
-    let other = costs.len() - first;
-    let stop = first + front.len;
+    let other = costs.len() - front.from;
     let mut end = other;
-    let mut at = first;
-    while at < stop {
-        end = visit(f, map, costs, work, at, end, bound, limit);
-        at += 1;
+    for at in front.from..front.from + front.len {
+        end = visit(f, map, costs, work, at, end, band.bound, limit);
     }
     Front {
         from: other,
         len: end - other,
-        bound,
+        bound: band.bound,
         settled: front.settled + band.below,
     }
 }
@@ -147,10 +138,7 @@ fn look(costs: &[u32], work: &[u32], goal: usize, limit: usize, front: Front) ->
     requires { CanLook costs.now work.now goal front }
     ensures { Looked costs.now work.now goal limit front result }
 {
-    let from = front.from;
-    let len = front.len;
-    let settled = front.settled;
-    if len == 0 {
+    if front.len == 0 {
         return Band {
             front,
             bound: front.bound,
@@ -159,25 +147,15 @@ fn look(costs: &[u32], work: &[u32], goal: usize, limit: usize, front: Front) ->
         };
     }
     // As wide as the least step: no cell of the band can still get cheaper.
-    let bound = least_cost(costs, work, from, len) + LEAST_STEP;
-    let below = count_below(costs, work, from, len, bound);
-    let last = Band {
-        front,
-        bound,
-        below,
-        more: false,
-    };
-    if costs[goal] < bound {
-        return last;
-    }
-    if limit < settled + below {
-        return last;
-    }
+    let listed = &work[front.from..front.from + front.len];
+    let bound = least_cost(costs, listed) + LEAST_STEP;
+    let below = count_below(costs, listed, bound);
+    let more = bound <= costs[goal] && front.settled + below <= limit;
     Band {
         front,
         bound,
         below,
-        more: true,
+        more,
     }
 }
 
@@ -189,19 +167,18 @@ pub fn go_on(
     limit: usize,
     costs: &mut [u32],
     work: &mut [u32],
-    front: Front,
+    mut front: Front,
 ) -> Band
     requires { CanGoOn f map.now costs.old work.old goal limit front }
     ensures { GoneOn f map.now costs.old work.old goal limit front costs.new work.new result }
 {
-    let mut band = look(costs, work, goal, limit, front);
-    let mut more = band.more;
-    while more {
-        let next = scan(f, map, costs, work, band, limit);
-        band = look(costs, work, goal, limit, next);
-        more = band.more;
+    loop {
+        let band = look(costs, work, goal, limit, front);
+        if !band.more {
+            return band;
+        }
+        front = scan(f, map, costs, work, band, limit);
     }
-    band
 }
 
 // Bands from the start on, until the last.
