@@ -17,14 +17,13 @@ use Rattle.floor.specs.Place.{cells}
 use Rattle.floor.specs.Step.{graph}
 use Rattle.floor.specs.Length.{route_length}
 use Rattle.floor.proofs.Laws.{lawful}
-use Rattle.answering.specs.declared.Answer.{Answer}
-use Rattle.answering.specs.declared.Answer.TheVariants.{Found, None}
+use Rattle.answering.specs.Answer.{Answer, Found, None}
 use Rattle.wave.specs.declared.Band.{Band}
-use Rattle.ranks.specs.Listed.{AmongCells, key_below}
-use Rattle.wave.specs.Bands.{IsBand, Looked, none_open, is_last, is_next, Rounds}
+use Rattle.ranks.specs.Listed.{AreCells, key_below}
+use Rattle.wave.specs.Bands.{IsBand, listed, Looked, none_open, is_last, is_next, Rounds}
 use Rattle.walkback.specs.Walks.{CanWalk}
 use Rattle.answering.specs.Answers.{answer_by}
-use Rattle.answering.specs.Question.{Question}
+use Rattle.answering.specs.declared.Question.{Question}
 use Rattle.lastband.specs.Last.{CanStop, StoppedAt, Arrived, CanFinish, Finished}
 use Rattle.wave.proofs.Rounds.{band_top, band_rises, band_wave, band_counted, can_look}
 use Rattle.settling.proofs.Counts.{cheaper_most}
@@ -36,8 +35,11 @@ module _ {f : Floor} {m : List ℕ} {q : Question} {costs work route : List ℕ}
   r = c.rounds
 
   -- the list holds cells of the floor, whose numbers fit 32 bits
-  pub listed : AmongCells (length costs) work b.front.from b.front.len
-  listed = (can_look r.between q.goal c.inside).among
+  pub in_room : b.front.from + b.front.len ≤ length work
+  in_room = (can_look r.between q.goal c.inside).room
+
+  pub are_cells : AreCells (length costs) (listed work b.front)
+  are_cells = (can_look r.between q.goal c.inside).are_cells
 
   pub few : cells f ≤ MARK
   few = (lawful f m r.between.passed).cells_fit
@@ -82,12 +84,18 @@ module _ {f : Floor} {m : List ℕ} {q : Question} {costs work route : List ℕ}
         (band_wave r.between last.band)
 
     abbrev pub goal_place : ℕ
-    goal_place = b.front.settled + key_below costs work b.front.from b.front.len (key costs q.goal)
+    goal_place = b.front.settled + key_below costs (listed work b.front) (key costs q.goal)
+
+    -- the code counts the goal's place in the list by the goal's key
+    pub counted : {k i : ℕ} → k ≡ get_or costs q.goal 0 * 4294967296 + q.goal → i ≡ key_below costs (listed work b.front) k → b.front.settled + i ≡ goal_place
+    unfolding key
+    counted e h = ap (λ (n : ℕ). b.front.settled + n) (h ∙ ap (key_below costs (listed work b.front)) e)
 
     -- the limit falls in the band
     pub can_stop : q.limit < cheaper_than costs b.bound → CanStop costs work q.limit b
     can_stop l = record {
-      among = listed;
+      room = in_room;
+      are_cells = are_cells;
       small = omega (arith, covers, few);
       within = r.within;
       find = can_find r.between b.bound (band_rises r.between last.band) top (q.limit - b.front.settled) (omega (arith, r.within));

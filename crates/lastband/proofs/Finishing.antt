@@ -25,9 +25,9 @@ use Rattle.floor.specs.Place.{cells}
 use Rattle.floor.specs.Step.{least_step, graph}
 use Rattle.floor.proofs.Laws.{lawful}
 use Rattle.wave.specs.declared.Front.{Front}
-use Rattle.wave.specs.Bands.{Between}
+use Rattle.wave.specs.Bands.{Between, listed}
 use Rattle.ranks.specs.Listed.{key_below}
-use Rattle.answering.specs.Question.{Question}
+use Rattle.answering.specs.declared.Question.{Question}
 use Rattle.answering.specs.Answers.{row_of}
 use Rattle.lastband.proofs.Ranks.{rank_listed}
 
@@ -87,7 +87,7 @@ module _ (f : Floor) (m : List ℕ) (q : Question) (costs work : List ℕ) (o : 
 
     -- the goal is below the bound, and open: its place is counted in the list
     abbrev goal_place : ℕ
-    goal_place = o.settled + key_below costs work o.from o.len (key costs q.goal)
+    goal_place = o.settled + key_below costs (listed work o) (key costs q.goal)
 
     pub goal_rank : get_or costs q.goal 0 < bound → o.bound ≤ get_or costs q.goal 0 → rank costs (key costs q.goal) ≡ goal_place
     goal_rank b l =
@@ -110,8 +110,8 @@ module _ (f : Floor) (m : List ℕ) (q : Question) (costs work : List ℕ) (o : 
 
     -- the limit falls before the cell with key k
     module _ (k : ℕ) (from_front : o.bound * 4294967296 ≤ k) (fits : k < bound * 4294967296)
-        (before : o.settled + key_below costs work o.from o.len k ≤ q.limit)
-        (past : q.limit < o.settled + key_below costs work o.from o.len (suc k))
+        (before : o.settled + key_below costs (listed work o) k ≤ q.limit)
+        (past : q.limit < o.settled + key_below costs (listed work o) (suc k))
         (open-goal : o.bound ≤ get_or costs q.goal 0)
         (later : get_or costs q.goal 0 < bound → q.limit ≤ goal_place) where
       rank_from : rank costs k ≤ q.limit

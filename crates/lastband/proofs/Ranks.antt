@@ -4,6 +4,7 @@ use mathlib.Core.List.{List}
 use Prim.Native.Nat.{ℕ, ◌+◌, ◌*◌, ◌≤◌, ◌<◌}
 use native.Mathlib.Omega.{arith}
 use native.Mathlib.Decide.{dec_lt}
+use Rattle.std.proofs.lemmas.Slice.{between_is}
 use Rattle.paths.specs.Graph.{MARK}
 use Rattle.settling.specs.Cut.{cheaper_than, rank}
 use Rattle.settling.proofs.Fronts.{front_rank}
@@ -12,7 +13,7 @@ use Rattle.floor.specs.declared.Floor.{Floor}
 use Rattle.floor.specs.Place.{cells}
 use Rattle.floor.proofs.Laws.{lawful}
 use Rattle.wave.specs.declared.Front.{Front}
-use Rattle.wave.specs.Bands.{Between}
+use Rattle.wave.specs.Bands.{Between, listed}
 use Rattle.ranks.specs.Listed.{key_below, CanFind}
 
 module _ {f : Floor} {m : List ℕ} {s : ℕ} {costs work : List ℕ} {o : Front} (b : Between f m s costs work o) where
@@ -20,16 +21,18 @@ module _ {f : Floor} {m : List ℕ} {s : ℕ} {costs work : List ℕ} {o : Front
   few = (lawful f m b.passed).cells_fit
 
   -- up to MARK's first key no cell without a cost is counted
-  pub rank_listed : (k : ℕ) → o.bound * 4294967296 ≤ k → k ≤ MARK * 4294967296 → rank costs k ≡ o.settled + key_below costs work o.from o.len k
+  pub rank_listed : (k : ℕ) → o.bound * 4294967296 ≤ k → k ≤ MARK * 4294967296 → rank costs k ≡ o.settled + key_below costs (listed work o) k
   unfolding key_below
-  rank_listed k low high = front_rank b.wave k low high few ∙ omega (arith, b.settled)
+  rank_listed k low high =
+      front_rank b.wave k low high few
+      ∙ omega (arith, b.settled, ap (λ (l : List ℕ). key_below costs l k) (between_is work o.from (o.from + o.len)))
 
   rank_cost : (c : ℕ) → rank costs (c * 4294967296) ≡ cheaper_than costs c
   rank_cost = rank_bound costs (omega (arith, b.wave.covers, few))
 
   -- the listed cell at some place, counted from 0 by cost and then by cell number, has a key between the band's bounds
   module _ (c : ℕ) (rises : o.bound ≤ c) (top : c ≤ MARK) (place : ℕ) where
-    pub can_find : o.settled + place < cheaper_than costs c → CanFind costs work o.from o.len (o.bound * 4294967296) (c * 4294967296) place
+    pub can_find : o.settled + place < cheaper_than costs c → CanFind costs (listed work o) (o.bound * 4294967296) (c * 4294967296) place
     can_find l = record {
       rises = higher (dec_lt o.bound c);
       before = omega (arith, rank_listed (o.bound * 4294967296) (omega arith) (omega arith), rank_cost o.bound, b.settled);

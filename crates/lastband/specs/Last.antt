@@ -10,25 +10,24 @@ use Rattle.floor.specs.declared.Floor.{Floor}
 use Rattle.floor.specs.Place.{cells}
 use Rattle.floor.specs.Step.{graph}
 use Rattle.floor.specs.Length.{route_length}
-use Rattle.answering.specs.declared.Answer.{Answer}
-use Rattle.answering.specs.declared.Answer.TheVariants.{Found, Stopped}
+use Rattle.answering.specs.Answer.{Answer, Found, Stopped}
 use Rattle.wave.specs.declared.Band.{Band}
-use Rattle.ranks.specs.Listed.{AmongCells}
-use Rattle.wave.specs.Bands.{Rounds}
-use Rattle.ranks.specs.Listed.{CanFind, IsNext}
+use Rattle.ranks.specs.Listed.{AreCells, CanFind, IsNext}
+use Rattle.wave.specs.Bands.{Rounds, listed}
 use Rattle.walkback.specs.Walks.{CanWalk}
 use Rattle.answering.specs.Answers.{row_of, answer_by}
-use Rattle.answering.specs.Question.{Question}
+use Rattle.answering.specs.declared.Question.{Question}
 
 pub record CanStop (costs work : List ℕ) (limit : ℕ) (b : Band) : Type 0 where
-  pub among : AmongCells (length costs) work b.front.from b.front.len
+  pub room : b.front.from + b.front.len ≤ length work
+  pub are_cells : AreCells (length costs) (listed work b.front)
   pub small : length costs ≤ MARK
   pub within : b.front.settled ≤ limit
-  pub find : CanFind costs work b.front.from b.front.len (b.front.bound * 4294967296) (b.bound * 4294967296) (limit - b.front.settled)
+  pub find : CanFind costs (listed work b.front) (b.front.bound * 4294967296) (b.bound * 4294967296) (limit - b.front.settled)
 
 pub record StoppedAt (costs work : List ℕ) (limit : ℕ) (b : Band) (a : Answer) (costs' : List ℕ) : Type 0 where
   pub k : ℕ
-  pub next : IsNext costs work b.front.from b.front.len (b.front.bound * 4294967296) (b.bound * 4294967296) (limit - b.front.settled) k
+  pub next : IsNext costs (listed work b.front) (b.front.bound * 4294967296) (b.bound * 4294967296) (limit - b.front.settled) k
   pub answer : a ≡ Stopped limit (k / 4294967296)
   pub left : costs' ≡ cut costs k
 
