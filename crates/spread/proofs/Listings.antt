@@ -1,4 +1,5 @@
 -- One cell of the list: it is taken off, its steps are taken one direction after the other, and it is done. The laws of the spread, put into the work room.
+use Rattle.std.specs.Prelude.{Some, None}
 use mathlib.Core.Path.{◌≡◌, sym, ◌∙◌}
 use mathlib.Core.List.{List, [], ◌∷◌, ◌++◌}
 use Prim.Native.Nat.{ℕ, suc, ◌+◌, ◌-◌, ◌*◌, ◌≤◌, ◌<◌}
@@ -15,9 +16,8 @@ use Rattle.settling.proofs.Slices.{occ_place}
 use Rattle.settling.proofs.Counts.{room}
 use Rattle.settling.proofs.Spreads.{stepping, spread_as, listed_inside, begin_spread, offer_listed, offer_joins, expand_none, expand_falls, expanded}
 use Rattle.floor.specs.declared.Floor.{Floor}
-use Rattle.floor.specs.declared.Onward.TheVariants.{Enters, Nowhere}
 use Rattle.floor.specs.Place.{cells}
-use Rattle.floor.specs.Step.{target, step_cost, step_of, onward, allowed, graph}
+use Rattle.floor.specs.Step.{step, target, step_cost, step_of, onward, allowed, graph}
 use Rattle.floor.specs.Refusal.{HasPassed}
 use Rattle.floor.proofs.Allowed.{enters, nowhere}
 use Rattle.floor.proofs.Laws.{lawful}
@@ -73,9 +73,9 @@ module _ {f : Floor} {m : List ℕ} where
       pub can_take_off : CanTakeOff (length costs) work len at
       can_take_off = rw x.spread.covers (record { double = x.listed.double; few = x.listed.few; before = before; cell = cell_at at before })
 
-      -- it is taken off
-      pub takes_off : Taking f m s (get_or work at 0) 0 costs (taken (length costs) work len at) (len - 1)
-      takes_off = rw x.spread.covers (record {
+      -- it is taken off, as `take_off` says what it gives and leaves
+      pub takes_off : {cell : ℕ} {work' : List ℕ} → cell ≡ get_or work at 0 → work' ≡ taken (length costs) work len at → Taking f m s cell 0 costs work' (len - 1)
+      takes_off e e' = rw (e, e', x.spread.covers) (record {
         passed = x.passed;
         starts = x.starts;
         listed = left_listed x.listed at before (cell_at at before) (omega (arith, listed_at at before, x.spread.once (get_or work at 0) (cell_at at before)));
@@ -107,7 +107,7 @@ module _ {f : Floor} {m : List ℕ} where
     goes_on l e = rw (add-one d) (record { passed = x.passed; starts = x.starts; listed = l; expanding = e })
 
     -- the step is not allowed
-    pub taking_barred : onward (step_of f m u d) ≡ Nowhere → Taking f m s u (d + 1) costs work len
+    pub taking_barred : onward (step_of f m u d) ≡ None → Taking f m s u (d + 1) costs work len
     taking_barred e = goes_on x.listed (expand_none st s x.expanding (λ t. absurd (nowhere f m u d e t)))
 
     -- the step leads to a cell, which is offered a cost
@@ -144,7 +144,7 @@ module _ {f : Floor} {m : List ℕ} where
           (goes_on (joined_listed x.listed there entered new taking_room)
           (rw (joined_list x.listed there entered new taking_room) (expand_falls st s x.expanding t l (take len work ++ (there ∷ [])) w)))
 
-    module _ (to cost : ℕ) (e : onward (step_of f m u d) ≡ Enters to cost) where
+    module _ (to cost : ℕ) (e : onward (step_of f m u d) ≡ Some (step to cost)) where
       pub can_offer : CanOffer costs work len to
       can_offer = let l = enters f m u d e in rw l.to (offer_there l.steps)
 

@@ -101,15 +101,14 @@ abbrev pub greatest_sum : ℕ
 greatest_sum = MARK + four_ways MARK MARK
 
 -- the listed cells are cells
-pub record CanLook (a : Aim) (costs work : List ℕ) (len : ℕ) : Type 0 where
+pub record CanLook (a : Aim) (costs listed : List ℕ) : Type 0 where
   pub aims : CanAim a
   pub small : length costs ≤ MARK
-  pub fits : len ≤ length work
-  pub cell : (k : ℕ) → k < len → get_or work k 0 < length costs
+  pub cell : (k : ℕ) → k < length listed → get_or listed k 0 < length costs
 
 -- r is the least sum of the listed cells
-abbrev pub IsLeastSum : Aim → List ℕ → List ℕ → ℕ → ℕ → Type 0
-IsLeastSum a costs work len r = LeastOf (λ k. sum_at a costs (get_or work k 0)) len r
+abbrev pub IsLeastSum : Aim → List ℕ → List ℕ → ℕ → Type 0
+IsLeastSum a costs listed r = LeastOf (λ k. sum_at a costs (get_or listed k 0)) (length listed) r
 
 -- a pass: the sum of some listed cell is at most `top`
 pub record CanPass (a : Aim) (m costs work : List ℕ) (len top : ℕ) : Type 0 where

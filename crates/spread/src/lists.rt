@@ -4,8 +4,7 @@ ghost use Rattle.paths.specs.Graph.{MARK};
 ghost use Rattle.floor.specs.Around.{around_of};
 ghost use Rattle.spread.specs.Listing.{total, Begun, CanBegin, CanOffer, Offered, CanTakeOff, taken, CanStep, Steps, CanExpand, Expanded};
 
-use answering::rooms::fill;
-use floor::{Around, Floor, MARK, Onward};
+use floor::{Around, Floor, MARK};
 
 // Only the start has a cost, and it is the only listed cell.
 pub(crate) fn begin(costs: &mut [u32], work: &mut [u32], start: usize) -> usize
@@ -13,8 +12,8 @@ pub(crate) fn begin(costs: &mut [u32], work: &mut [u32], start: usize) -> usize
     ensures { Begun (length costs.old) start costs.new work.new result }
 {
     let flag = costs.len() + start;
-    fill(costs, MARK);
-    fill(work, 0);
+    costs.fill(MARK);
+    work.fill(0);
     costs[start] = 0;
     work[0] = start as u32;
     work[flag] = 1;
@@ -23,6 +22,7 @@ pub(crate) fn begin(costs: &mut [u32], work: &mut [u32], start: usize) -> usize
 
 // Cell `to` is offered a cost: its own falls to that if it is less, and it joins the list unless it is listed. The sum has 64 bits, so that it can't wrap, and
 // is stored only where it is below a cost that has 32.
+#[tactic(auto, using(crate::specs::Listing::no_less, crate::specs::Listing::falls, crate::specs::Listing::joins))]
 fn offer(costs: &mut [u32], work: &mut [u32], len: usize, to: usize, sum: u64) -> usize
     requires { CanOffer costs.old work.old len to }
     ensures { Offered costs.old work.old len to sum costs.new work.new result }
@@ -56,12 +56,11 @@ fn take_step(
     ensures steps { Steps f map.now costs.old work.old len cell direction (direction + 1) costs.new work.new result }
     ensures falls { total costs.new + result ≤ total costs.old + len }
 {
-    let step = floor::neighbours::step_onward(f, map, cell, around, direction);
-    let Onward::Enters(to, cost) = step else {
+    let Some(step) = floor::neighbours::step_onward(f, map, cell, around, direction) else {
         return len;
     };
-    let sum = (costs[cell] as u64) + (cost as u64);
-    offer(costs, work, len, to, sum)
+    let sum = costs[cell] as u64 + step.cost as u64;
+    offer(costs, work, len, step.cell, sum)
 }
 
 // All steps from a cell.
@@ -79,10 +78,8 @@ fn take_steps(
 {
     let around = floor::neighbours::around_of(f, map, cell);
     let mut last = len;
-    let mut direction = 0;
-    while direction < 8 {
+    for direction in 0..8 {
         last = take_step(f, map, costs, work, last, cell, around, direction);
-        direction += 1;
     }
     last
 }

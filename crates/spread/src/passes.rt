@@ -13,6 +13,7 @@ use crate::{Aim, WIDTH};
 use floor::MARK;
 
 // A cell's cost and its estimate together, in 64 bits.
+#[tactic(auto, unfolding(crate::specs::Listing::sum_at))]
 fn sum_of(aim: Aim, costs: &[u32], cell: usize) -> u64
     requires { CanAim aim × (cell < length costs.now) × (length costs.now ≤ MARK) }
     ensures sum { result ≡ sum_at aim costs.now cell }
@@ -23,21 +24,14 @@ fn sum_of(aim: Aim, costs: &[u32], cell: usize) -> u64
 }
 
 // The least sum of the listed cells.
-fn least_sum(aim: Aim, costs: &[u32], work: &[u32], len: usize) -> u64
-    requires { (0 < len) × CanLook aim costs.now work.now len }
-    ensures least { IsLeastSum aim costs.now work.now len result }
+fn least_sum(aim: Aim, costs: &[u32], listed: &[u32]) -> u64
+    requires { (0 < length listed.now) × CanLook aim costs.now listed.now }
+    ensures least { IsLeastSum aim costs.now listed.now result }
     ensures small { result ≤ greatest_sum }
 {
-    let head = work[0] as usize;
-    let mut least = sum_of(aim, costs, head);
-    let mut i = 1;
-    while i < len {
-        let cell = work[i] as usize;
-        let sum = sum_of(aim, costs, cell);
-        if sum < least {
-            least = sum;
-        }
-        i += 1;
+    let mut least = sum_of(aim, costs, listed[0] as usize);
+    for cell in &listed[1..] {
+        least = least.min(sum_of(aim, costs, *cell as usize));
     }
     least
 }
@@ -47,14 +41,11 @@ fn least_sum(aim: Aim, costs: &[u32], work: &[u32], len: usize) -> u64
 fn is_over(cost: u32, least: u64) -> bool
     ensures { result ≡ (not (eqb cost MARK) && ltb cost least) }
 {
-    if cost == MARK {
-        return false;
-    }
-    (cost as u64) < least
+    cost != MARK && (cost as u64) < least
 }
 
 // One pass: a listed cell whose sum is at most `top` is taken off, and its steps are taken. The last of the list takes its place and is looked at next, so
-// that new cells come first.
+// that new cells come first. The list changes under the loop, so it goes by place.
 fn pass(aim: Aim, map: &[u8], costs: &mut [u32], work: &mut [u32], len: usize, top: u64) -> usize
     requires { CanPass aim map.now costs.old work.old len top }
     ensures keeps { Expanded aim.floor map.now costs.old work.old len costs.new work.new result }
@@ -74,7 +65,7 @@ fn pass(aim: Aim, map: &[u8], costs: &mut [u32], work: &mut [u32], len: usize, t
     end
 }
 
-// Passes from the start on, each over the cells whose sum is near the least, until the search is over or no cell is listed.
+// Passes from the start on, each over the cells whose sum is near the least, until the search is over or no cell is listed. Each pass changes how many are.
 pub fn settle(aim: Aim, map: &[u8], start: usize, costs: &mut [u32], work: &mut [u32])
     requires has_passed { HasPassed aim.floor map.now × (start < cells aim.floor) × (aim.goal < cells aim.floor) × (aim.place ≡ place_of aim.floor aim.goal) }
     requires costs_len { (length costs.old ≡ cells aim.floor) × (length work.old ≡ 2 * cells aim.floor) }
@@ -83,7 +74,7 @@ pub fn settle(aim: Aim, map: &[u8], start: usize, costs: &mut [u32], work: &mut 
     let goal = aim.goal;
     let mut len = begin(costs, work, start);
     while 0 < len {
-        let least = least_sum(aim, costs, work, len);
+        let least = least_sum(aim, costs, &work[..len]);
         if is_over(costs[goal], least) {
             return;
         }
