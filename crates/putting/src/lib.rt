@@ -10,12 +10,9 @@ pub fn put(bytes: &[u8], room: &mut [u8], at: usize) -> usize
     requires { at + length bytes.now ≤ length room.old }
     ensures { IsPut bytes.now room.old at result room.new }
 {
-    let mut i = 0;
-    while i < bytes.len() {
-        room[at + i] = bytes[i];
-        i += 1;
-    }
-    at + i
+    let end = at + bytes.len();
+    room[at..end].copy_from_slice(bytes);
+    end
 }
 
 // Puts one byte so many times, and answers the place after them.
@@ -23,10 +20,7 @@ pub fn fill(byte: u8, count: usize, room: &mut [u8], at: usize) -> usize
     requires { at + count ≤ length room.old }
     ensures { IsPut (replicate count byte) room.old at result room.new }
 {
-    let mut i = 0;
-    while i < count {
-        room[at + i] = byte;
-        i += 1;
-    }
-    at + i
+    let end = at + count;
+    room[at..end].fill(byte);
+    end
 }
