@@ -1,33 +1,34 @@
 -- The side whose line a text begins with: the digits after the word can be those of one side alone, by a test of every side.
-use mathlib.Core.Path.{◌≡◌, sym, ◌∙◌, ap}
-use mathlib.Core.Bool.{Bool, false, ◌&&◌}
+use mathlib.Core.Path.{◌≡◌, refl, sym, ◌∙◌, ap, subst}
+use mathlib.Core.Bool.{Bool, false, cond, ◌&&◌}
 use mathlib.Core.List.{List, [], ◌∷◌, ◌++◌, append_assoc}
 use Prim.Native.Nat.{ℕ, zero, suc, ◌+◌, ◌-◌, ◌*◌, ◌≤◌, ◌<◌, zero-le, suc-le-suc}
-use native.Mathlib.Numerals.{add-one}
 use native.Mathlib.Omega.{arith}
-use borrow.Author.Tests.{lt-ltb, le-leb}
-use lib.Dec.{T, eqb, leb, ltb, eqb→eq}
-use lib.ListN.{length, get_or, drop, drop_of_length-le}
+use borrow.Author.Tests.{le-ltb}
+use lib.Dec.{T, eqb, leb, ltb, eqb→eq, leb→le, ltb→lt, le→leb, lt→ltb}
+use lib.ListN.{length, get_or, drop}
 use lib.Seq.{drop-cons, drop-append_seam}
+use Rattle.std.specs.Char.{is_ascii_digit}
 use Rattle.paths.specs.Below.{lowest}
 use Rattle.paths.proofs.Below.{lowest_is, lowest_none, every_at}
+use Rattle.paths.proofs.Bools.{T_true, T_and, and_T, by_cond}
 use Rattle.floor.specs.Place.{greatest_side}
 use Rattle.textlines.specs.Line.{LF, digits, side_line, begins, side_in}
 use Rattle.textlines.specs.Working.{run_value}
 use Rattle.textlines.proofs.Beginnings.{begins_split}
 
--- the run goes on with a digit, stops at another byte or at a fourth digit, and ends with the text
-pub run_on : (n : ℕ) (text : List ℕ) (at : ℕ) → at < length text → n < 1000 → 48 ≤ get_or text at 0 → get_or text at 0 ≤ 57
-    → run_value n (drop at text) ≡ run_value (10 * n + (get_or text at 0 - 48)) (drop (at + 1) text)
-run_on n text at h k l m =
-    rw (drop-cons text at 0 h, lt-ltb n 1000 k, le-leb 48 (get_or text at 0) l, le-leb (get_or text at 0) 57 m, add-one)
+-- the run stops at a number of four digits, and at a byte that is no digit
+at_four : (n : ℕ) (text : List ℕ) → 1000 ≤ n → run_value n text ≡ n
+at_four n [] h = refl
+at_four n (b ∷ bs) h = rw (le-ltb n 1000 h)
 
-pub run_stops : (n : ℕ) (text : List ℕ) (at : ℕ) → at < length text
-    → ltb n 1000 && (leb 48 (get_or text at 0) && leb (get_or text at 0) 57) ≡ false → run_value n (drop at text) ≡ n
-run_stops n text at h e = rw (drop-cons text at 0 h, e)
+pub run_full : (n : ℕ) (text : List ℕ) (at : ℕ) → 1000 ≤ n → run_value n (drop at text) ≡ n
+run_full n text at h = at_four n (drop at text) h
 
-pub run_ends : (n : ℕ) (text : List ℕ) (at : ℕ) → length text ≤ at → run_value n (drop at text) ≡ n
-run_ends n text at h = rw (drop_of_length-le text h)
+pub run_stops : (n : ℕ) (text : List ℕ) (at : ℕ) → at < length text → is_ascii_digit (get_or text at 0) ≡ false → run_value n (drop at text) ≡ n
+run_stops n text at h e =
+    rw (drop-cons text at 0 h) (by_cond (λ (v : ℕ). v ≡ n) (ltb n 1000 && is_ascii_digit (get_or text at 0)) (run_value (10 * n + (get_or text at 0 - 48)) (drop (suc at) text)) n
+    (λ t. let d : T false = rw e at (T_and (ltb n 1000) (is_ascii_digit (get_or text at 0)) t).1 in absurd d) (λ t. refl))
 
 lowest_only : (p : ℕ → Bool) (top n : ℕ) → n < top → T (p n) → ((m : ℕ) → m < top → T (p m) → m ≡ n) → lowest p top ≡ n
 lowest_only p top n h t only =
@@ -67,8 +68,24 @@ module _ (word text : List ℕ) where
       (lowest_none (λ m. begins (side_line word (suc m)) text) greatest_side
       (λ m l s. none-there (suc m) (sym (value_of_side (suc m) l s)) (omega arith) l s))
 
-  pub side_in_absent : (v : ℕ) → v ≡ run_value 0 (drop (length word) text) → begins (side_line word v) text ≡ false → side_in word text ≡ suc greatest_side
-  side_in_absent v e f = side_in_none λ n g p h t. rw (g ∙ sym e, f) at t
+  -- by the number that the run gives
+  abbrev is_told : ℕ → Bool
+  is_told n = ltb 0 n && (leb n greatest_side && begins (side_line word n) text)
+
+  told : (n : ℕ) → 0 < n → n ≤ greatest_side → T (begins (side_line word n) text) → T (is_told n)
+  told n p h t = and_T (ltb 0 n) (leb n greatest_side && begins (side_line word n) text) (lt→ltb 0 n p) (and_T (leb n greatest_side) (begins (side_line word n) text) (le→leb n greatest_side h) t)
+
+  pub side_in_by_run : side_in word text
+      ≡ cond (ltb 0 (run_value 0 (drop (length word) text)) && (leb (run_value 0 (drop (length word) text)) greatest_side && begins (side_line word (run_value 0 (drop (length word) text))) text))
+      (run_value 0 (drop (length word) text)) (suc greatest_side)
+  side_in_by_run =
+      let n = run_value 0 (drop (length word) text) in
+      by_cond (λ (v : ℕ). side_in word text ≡ v) (is_told n) n (suc greatest_side)
+      (λ t.
+      let a = T_and (ltb 0 n) (leb n greatest_side && begins (side_line word n) text) t in
+      let b = T_and (leb n greatest_side) (begins (side_line word n) text) a.1 in
+      side_in_is n (ltb→lt 0 n a.0) (leb→le n greatest_side b.0) b.1)
+      (λ t. side_in_none λ m g p h s. let k : T (is_told n) = subst (λ (v : ℕ). T (is_told v)) g (told m p h s) in rw (T_true (is_told n) k) at t)
 
   pub side_there : side_in word text ≤ greatest_side → T (begins (side_line word (side_in word text)) text)
   unfolding side_in

@@ -2,27 +2,11 @@
 ghost use Rattle.std.specs.Prelude.{◌≡◌, ◌+◌, ◌≤◌, ◌<◌, length, drop};
 ghost use Rattle.floor.specs.Place.{greatest_side};
 ghost use Rattle.putting.specs.Put.{IsPut};
-ghost use Rattle.textlines.specs.Line.{digits, side_line, begins, side_in};
+ghost use Rattle.textlines.specs.Line.{digits, side_line, begins, IsSide};
 ghost use Rattle.textlines.specs.Working.{run_value, greatest_word, digit_at};
 
 use floor::GREATEST_SIDE;
 use putting::put;
-
-fn begins(line: &[u8], text: &[u8]) -> bool
-    ensures { result ≡ begins line.now text.now }
-{
-    let mut i = 0;
-    while i < line.len() {
-        if text.len() <= i {
-            return false;
-        }
-        if line[i] != text[i] {
-            return false;
-        }
-        i += 1;
-    }
-    true
-}
 
 fn narrowed(digit: usize) -> u8
     requires { digit < 10 }
@@ -31,6 +15,7 @@ fn narrowed(digit: usize) -> u8
     b'0' + digit as u8
 }
 
+#[tactic(auto, unfolding(crate::specs::Working::digit_at))]
 fn put_digit(n: usize, unit: usize, room: &mut [u8], at: usize) -> usize
     requires { (0 < unit) × (at + length (digit_at unit n) ≤ length room.old) }
     ensures { IsPut (digit_at unit n) room.old at result room.new }
@@ -55,16 +40,12 @@ fn put_digits(n: usize, room: &mut [u8], at: usize) -> usize
 fn digit_count(n: usize) -> usize
     ensures { (result ≡ length (digits 4 n)) × (result ≤ 4) }
 {
-    if n < 10 {
-        return 1;
+    match n {
+        0..=9 => 1,
+        10..=99 => 2,
+        100..=999 => 3,
+        _ => 4,
     }
-    if n < 100 {
-        return 2;
-    }
-    if n < 1000 {
-        return 3;
-    }
-    4
 }
 
 // The length of a side's line: the word, the digits, LF.
@@ -85,32 +66,18 @@ pub fn put_side_line(word: &[u8], n: usize, room: &mut [u8], at: usize) -> usize
 }
 
 // The number that the digits at `from` give. It is looked at no further once it has four digits, so it stays below 10,000.
+#[tactic(auto, using(crate::proofs::Sides::run_full, crate::proofs::Sides::run_stops))]
 fn run_value(text: &[u8], from: usize) -> usize
     ensures { result ≡ run_value 0 (drop from text.now) }
 {
     let mut n = 0;
-    let mut at = from;
-    while at < text.len() {
-        let b = text[at];
-        if 1000 <= n {
+    for byte in &text[from.min(text.len())..] {
+        if 1000 <= n || !byte.is_ascii_digit() {
             return n;
         }
-        if b < b'0' {
-            return n;
-        }
-        if b'9' < b {
-            return n;
-        }
-        n = 10 * n + widened(b - b'0');
-        at += 1;
+        n = 10 * n + (*byte - b'0') as usize;
     }
     n
-}
-
-fn widened(digit: u8) -> usize
-    ensures { result ≡ digit }
-{
-    digit as usize
 }
 
 // The text has to have, byte for byte, the line that the writer would write: that rules out a leading zero, a second space, CR before LF.
@@ -120,26 +87,20 @@ fn has_side_line(word: &[u8], n: usize, text: &[u8]) -> bool
 {
     let mut room = [0u8; 12];
     let end = put_side_line(word, n, &mut room, 0);
-    let line = &room[0..end];
-    begins(line, text)
+    text.starts_with(&room[..end])
 }
 
-// The side whose line the text begins with, or one more than the greatest.
-fn side_in(word: &[u8], text: &[u8]) -> usize
+// The side whose line the text begins with.
+#[tactic(auto, using(crate::proofs::Sides::side_in_by_run, std::proofs::lemmas::Bool::Decides::nat_tests))]
+fn side_in(word: &[u8], text: &[u8]) -> Option<usize>
     requires { length word.now ≤ greatest_word }
-    ensures { result ≡ side_in word.now text.now }
+    ensures { IsSide word.now text.now result }
 {
     let n = run_value(text, word.len());
-    if n == 0 {
-        return GREATEST_SIDE + 1;
+    if 0 < n && n <= GREATEST_SIDE && has_side_line(word, n, text) {
+        return Some(n);
     }
-    if GREATEST_SIDE < n {
-        return GREATEST_SIDE + 1;
-    }
-    if has_side_line(word, n, text) {
-        return n;
-    }
-    GREATEST_SIDE + 1
+    None
 }
 
 // The lines of a header are looked for at an offset.
@@ -147,12 +108,12 @@ pub fn begins_at(line: &[u8], text: &[u8], at: usize) -> bool
     requires { at ≤ length text.now }
     ensures { result ≡ begins line.now (drop at text.now) }
 {
-    begins(line, &text[at..])
+    text[at..].starts_with(line)
 }
 
-pub fn side_at(word: &[u8], text: &[u8], at: usize) -> usize
+pub fn side_at(word: &[u8], text: &[u8], at: usize) -> Option<usize>
     requires { (length word.now ≤ greatest_word) × (at ≤ length text.now) }
-    ensures { result ≡ side_in word.now (drop at text.now) }
+    ensures { IsSide word.now (drop at text.now) result }
 {
     side_in(word, &text[at..])
 }
