@@ -1,91 +1,85 @@
--- Rows that are put one after the other: the bytes that a text gives, and the characters that a map gives.
-use mathlib.Core.Path.{◌≡◌, ap, ◌∙◌}
-use mathlib.Core.List.{List, [], ◌∷◌, ◌++◌, map, append_assoc}
-use Prim.Native.Nat.{ℕ, zero, suc, ◌+◌, ◌-◌, ◌*◌, ◌≤◌, ◌<◌}
-use native.Mathlib.Nat.{suc-mul}
+-- Bytes that are put one after the other, and rows: the bytes that a text gives, and the characters that a map gives.
+use mathlib.Core.Path.{◌≡◌, refl, sym, ap, ◌∙◌}
+use mathlib.Core.List.{List, [], ◌∷◌, ◌++◌, map, append_assoc, append-nil}
+use Prim.Native.Nat.{ℕ, zero, suc, ◌+◌, ◌*◌, ◌≤◌, ◌<◌}
+use native.Mathlib.Nat.{suc-mul, zero-mul, mul-le-mul, le_refl}
 use native.Mathlib.Numerals.{add-one}
 use native.Mathlib.Omega.{arith}
-use lib.ListN.{length, take, drop, length-map, length-append, length-drop}
-use lib.Seq.{sets, length-sets, length-take-le, drop-drop}
+use lib.ListN.{length, get_or, set, take, drop, length-map, length-append, length-drop}
+use lib.Seq.{sets, length-take-le, drop-drop}
+use Rattle.std.specs.Option.{unwrap_or}
+use Rattle.std.proofs.lemmas.List.{map_more}
 use Rattle.textlines.specs.Line.{LF}
-use Rattle.putting.specs.Put.{IsPut}
+use Rattle.textrows.specs.Cell.{Cell, Weight, Blocked, NoCell, byte_in}
 use Rattle.textrows.specs.Chars.{char_of}
 use Rattle.textrows.specs.Rows.{rows}
-use Rattle.textrows.specs.Working.{byte_of, bytes_in}
-use Rattle.putting.proofs.Puts.{sets_append, put_both}
-
-one_row_less : (left k : ℕ) → 0 < left → left * k ≡ k + (left - 1) * k
-one_row_less zero k h = absurd (omega arith)
-one_row_less (suc left) k h = let e : suc left - 1 ≡ left = omega arith in rw (e, suc-mul) (omega arith)
+use Rattle.textrows.specs.Working.{byte_for, byte_or_0, bytes_in}
+use Rattle.putting.proofs.Puts.{sets_append}
 
 pub mapped_length : (f : ℕ → ℕ) (w : ℕ) (xs : List ℕ) → w ≤ length xs → length (map f (take w xs)) ≡ w
 mapped_length f w xs h = length-map (take w xs) f ∙ length-take-le w xs h
 
-next_bytes : (w left at to : ℕ) (text room : List ℕ) → 0 < left → w ≤ length (drop at text)
-    → sets room to (bytes_in w left (drop at text))
-    ≡ sets (sets room to (map byte_of (take w (drop at text)))) (to + w) (bytes_in w (left - 1) (drop (at + (w + 1)) text))
-next_bytes w left at to text room h k =
-    let e : left ≡ suc (left - 1) = omega arith in
-    let row = map byte_of (take w (drop at text)) in
-    ap (λ (n : ℕ). sets room to (bytes_in w n (drop at text))) e
-    ∙ sets_append row (bytes_in w (left - 1) (drop (suc w) (drop at text))) room to
-    ∙ rw (mapped_length byte_of w (drop at text) k, drop-drop, add-one)
+-- one more of the mapped bytes is put
+pub mapped_more : (f : ℕ → ℕ) (xs room : List ℕ) (to i : ℕ) → i < length xs
+    → set (sets room to (map f (take i xs))) (to + i) (f (get_or xs i 0)) ≡ sets room to (map f (take (i + 1) xs))
+mapped_more f xs room to i h =
+    let done = map f (take i xs) in
+    let size : length done ≡ i = mapped_length f i xs (omega arith) in
+    sym (ap (λ (l : List ℕ). sets room to l) (map_more f xs i 0 h) ∙ sets_append done (f (get_or xs i 0) ∷ []) room to ∙ rw size)
 
--- some rows are left, from offset `at` of the text and place `to` of the room on: put into the room as it is now, they finish it
-pub record Filling (w h from : ℕ) (text room : List ℕ) (left at to : ℕ) (room' : List ℕ) : Type 0 where
-  pub in_text : at + left * suc w ≤ length text
-  pub in_room : to + left * w ≤ length room'
-  pub same : length room' ≡ length room
-  pub rest : sets room 0 (bytes_in w h (drop from text)) ≡ sets room' to (bytes_in w left (drop at text))
+pub mapped_next : (f : ℕ → ℕ) (xs room : List ℕ) {room' : List ℕ} (to : ℕ) {i v : ℕ} → i < length xs → room' ≡ sets room to (map f (take i xs)) → v ≡ f (get_or xs i 0)
+    → set room' (to + i) v ≡ sets room to (map f (take (i + 1) xs))
+mapped_next f xs room to {i} h e b = rw (e, b) (mapped_more f xs room to i h)
 
-module _ {w h from : ℕ} {text room : List ℕ} {left at to : ℕ} {room' : List ℕ} (f : Filling w h from text room left at to room') (l : 0 < left) where
-  pub row_in_text : at + (w + 1) ≤ length text
-  row_in_text = omega (arith, one_row_less left (suc w) l, f.in_text)
+-- the byte of no cell is told as 0
+pub byte_told : (cell : Cell) → unwrap_or (byte_in cell) 0 ≡ byte_for cell
+byte_told (Weight n) = refl
+byte_told Blocked = refl
+byte_told NoCell = refl
 
-  pub row_in_room : to + w ≤ length room'
-  row_in_room = omega (arith, one_row_less left w l, f.in_room)
+-- a further row fits
+pub row_fits : (y h k : ℕ) → y < h → y * k + k ≤ h * k
+row_fits y h k l = let m : suc y * k ≤ h * k = mul-le-mul l (le_refl k) in omega (arith, suc-mul y k)
 
-  pub filling_next : {room'' : List ℕ} → room'' ≡ sets room' to (map byte_of (take w (drop at text)))
-      → Filling w h from text room (left - 1) (at + (w + 1)) (to + w) room''
-  filling_next {room''} e =
-      let size : length room'' ≡ length room' = ap length e ∙ length-sets room' to (map byte_of (take w (drop at text))) in
-      record {
-        in_text = omega (arith, one_row_less left (suc w) l, f.in_text);
-        in_room = omega (arith, one_row_less left w l, f.in_room);
-        same = size ∙ f.same;
-        rest = f.rest ∙ rw e (next_bytes w left at to text room' l (omega (arith, length-drop at text, row_in_text)));
-      }
+pub bytes_length : (w h : ℕ) (text : List ℕ) → h * suc w ≤ length text → length (bytes_in w h text) ≡ h * w
+bytes_length w zero text k = omega arith
+bytes_length w (suc h) text k =
+    let row : length (map byte_or_0 (take w text)) ≡ w = mapped_length byte_or_0 w text (omega (arith, suc-mul h (suc w))) in
+    let rest = bytes_length w h (drop (suc w) text) (omega (arith, suc-mul h (suc w), length-drop (suc w) text)) in
+    omega (arith, length-append (map byte_or_0 (take w text)) (bytes_in w h (drop (suc w) text)), row, rest, suc-mul h w)
 
-next_rows : (w left from : ℕ) (m : List ℕ) → 0 < left
-    → rows w left (drop from m) ≡ map char_of (take w (drop from m)) ++ (LF ∷ []) ++ rows w (left - 1) (drop (from + w) m)
-next_rows w left from m h =
-    let e : left ≡ suc (left - 1) = omega arith in
-    ap (λ (n : ℕ). rows w n (drop from m)) e ∙ rw (drop-drop, append_assoc (map char_of (take w (drop from m))) (LF ∷ []))
+-- y rows of bytes, and then the next
+pub bytes_more : (w y : ℕ) (text : List ℕ) → bytes_in w (suc y) text ≡ bytes_in w y text ++ map byte_or_0 (take w (drop (y * suc w) text))
+bytes_more w zero text = rw (append-nil, zero-mul)
+bytes_more w (suc y) text =
+    let first = map byte_or_0 (take w text) in
+    let past : suc w + y * suc w ≡ suc y * suc w = omega (arith, suc-mul y (suc w)) in
+    ap (λ (l : List ℕ). first ++ l) (bytes_more w y (drop (suc w) text)) ∙ rw (drop-drop, past)
+    (sym (append_assoc first (bytes_in w y (drop (suc w) text)) (map byte_or_0 (take w (drop (suc y * suc w) text)))))
 
--- the same for a map's rows that are put into a text's room: whoever puts those that are left has put them all
-pub record PuttingRows (w h : ℕ) (m room : List ℕ) (at left from next : ℕ) (room' : List ℕ) : Type 0 where
-  pub in_map : from + left * w ≤ length m
-  pub in_room : next + left * suc w ≤ length room'
-  pub same : length room' ≡ length room
-  pub rest : (r : ℕ) (room'' : List ℕ) → IsPut (rows w left (drop from m)) room' next r room'' → IsPut (rows w h m) room at r room''
+-- the next row is stored, at the offset that the text has it at
+pub next_stored : (w y from : ℕ) (text room : List ℕ) {room' room'' : List ℕ} → from + y * suc w ≤ length text → room' ≡ sets room 0 (bytes_in w y (drop from text))
+    → room'' ≡ sets room' (y * w) (map byte_or_0 (take w (drop (from + y * suc w) text))) → room'' ≡ sets room 0 (bytes_in w (y + 1) (drop from text))
+next_stored w y from text room h e k =
+    let done = bytes_in w y (drop from text) in
+    let row = map byte_or_0 (take w (drop (y * suc w) (drop from text))) in
+    let size : 0 + length done ≡ y * w = omega (arith, bytes_length w y (drop from text) (omega (arith, length-drop from text))) in
+    let all : bytes_in w (y + 1) (drop from text) ≡ done ++ row = rw add-one (bytes_more w y (drop from text)) in
+    let here : sets (sets room 0 done) (0 + length done) row ≡ sets (sets room 0 done) (y * w) row = ap (λ (n : ℕ). sets (sets room 0 done) n row) size in
+    k ∙ rw (e, all) (sym (sets_append done row room 0 ∙ here ∙ rw drop-drop))
 
-module _ {w h : ℕ} {m room : List ℕ} {at left from next : ℕ} {room' : List ℕ} (p : PuttingRows w h m room at left from next room') (l : 0 < left) where
-  pub row_in_map : from + w ≤ length m
-  row_in_map = omega (arith, one_row_less left w l, p.in_map)
+-- and of characters
+pub rows_more : (w y : ℕ) (m : List ℕ) → rows w (suc y) m ≡ rows w y m ++ (map char_of (take w (drop (y * w) m)) ++ (LF ∷ []))
+rows_more w zero m = rw zero-mul
+rows_more w (suc y) m =
+    let first = map char_of (take w m) in
+    let past : w + y * w ≡ suc y * w = omega (arith, suc-mul y w) in
+    ap (λ (l : List ℕ). first ++ (LF ∷ l)) (rows_more w y (drop w m)) ∙ rw (drop-drop, past)
+    (sym (append_assoc first (LF ∷ rows w y (drop w m)) (map char_of (take w (drop (suc y * w) m)) ++ (LF ∷ []))))
 
-  pub text_row_in_room : next + suc w ≤ length room'
-  text_row_in_room = omega (arith, one_row_less left (suc w) l, p.in_room)
-
-  pub putting_next_row : {r : ℕ} {room'' : List ℕ} → IsPut (map char_of (take w (drop from m)) ++ (LF ∷ [])) room' next r room''
-      → PuttingRows w h m room at (left - 1) (from + w) r room''
-  putting_next_row {r} {room''} q =
-      let row = map char_of (take w (drop from m)) in
-      let size : length row ≡ w = mapped_length char_of w (drop from m) (omega (arith, length-drop from m, row_in_map)) in
-      let same-room : length room'' ≡ length room' = ap length q.leaves ∙ length-sets room' next (row ++ (LF ∷ [])) in
-      let end : r ≡ next + suc w = omega (arith, q.next, length-append row (LF ∷ [])) in
-      record {
-        in_map = omega (arith, one_row_less left w l, p.in_map);
-        in_room = omega (arith, one_row_less left (suc w) l, p.in_room);
-        same = same-room ∙ p.same;
-        rest = λ r' room''' t. p.rest r' room''' (rw (next_rows w left from m l) (put_both q t));
-      }
+pub rows_text_length : (w h : ℕ) (m : List ℕ) → h * w ≤ length m → length (rows w h m) ≡ h * suc w
+rows_text_length w zero m k = omega arith
+rows_text_length w (suc h) m k =
+    let row : length (map char_of (take w m)) ≡ w = mapped_length char_of w m (omega (arith, suc-mul h w)) in
+    let rest = rows_text_length w h (drop w m) (omega (arith, suc-mul h w, length-drop w m)) in
+    omega (arith, length-append (map char_of (take w m)) (LF ∷ rows w h (drop w m)), row, rest, suc-mul h (suc w))

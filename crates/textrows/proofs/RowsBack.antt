@@ -14,19 +14,21 @@ use Rattle.floor.specs.Place.{greatest_weight}
 use Rattle.textlines.specs.Line.{LF}
 use Rattle.textrows.specs.Chars.{cell_of, char_of}
 use Rattle.textrows.specs.Rows.{rows, whole, one_cell, read_row, read_rows}
-use Rattle.textrows.specs.Working.{is_cell, byte_for, Weights}
+use Rattle.textrows.specs.Working.{byte_for, Weights}
+use Rattle.std.specs.Option.{is_some}
+use Rattle.textrows.specs.Cell.{byte_in}
 use Rattle.textrows.proofs.Filling.{mapped_length}
 use Rattle.textrows.proofs.Whole.{whole_cell}
 
 -- the character of every weight is a cell, and its byte is the weight
-cell_back : (c : ℕ) → c ≤ greatest_weight → T (is_cell (cell_of (char_of c)) && eqb (byte_for (cell_of (char_of c))) c)
+cell_back : (c : ℕ) → c ≤ greatest_weight → T (is_some (byte_in (cell_of (char_of c))) && eqb (byte_for (cell_of (char_of c))) c)
 unfolding cell_of
-cell_back c h = every_at (λ c. is_cell (cell_of (char_of c)) && eqb (byte_for (cell_of (char_of c))) c) (suc greatest_weight) tt c (omega arith)
+cell_back c h = every_at (λ c. is_some (byte_in (cell_of (char_of c))) && eqb (byte_for (cell_of (char_of c))) c) (suc greatest_weight) tt c (omega arith)
 
 one_cell_back : (c at : ℕ) → c ≤ greatest_weight → one_cell (cell_of (char_of c)) at ≡ whole (c ∷ [])
 one_cell_back c at h =
-    let t = T_and (is_cell (cell_of (char_of c))) (eqb (byte_for (cell_of (char_of c))) c) (cell_back c h) in
-    whole_cell (cell_of (char_of c)) at (T_true (is_cell (cell_of (char_of c))) t.0) ∙ rw (eqb→eq (byte_for (cell_of (char_of c))) c t.1)
+    let t = T_and (is_some (byte_in (cell_of (char_of c)))) (eqb (byte_for (cell_of (char_of c))) c) (cell_back c h) in
+    whole_cell (cell_of (char_of c)) at (T_true (is_some (byte_in (cell_of (char_of c)))) t.0) ∙ rw (eqb→eq (byte_for (cell_of (char_of c))) c t.1)
 
 row_back : (w at : ℕ) (m rest : List ℕ) → w ≤ length m → Weights m → read_row w at (map char_of (take w m) ++ (LF ∷ rest)) ≡ whole (take w m)
 row_back zero at m rest h k = refl

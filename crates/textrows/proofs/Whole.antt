@@ -2,20 +2,19 @@
 use mathlib.Core.Path.{◌≡◌, refl}
 use mathlib.Core.Bool.{Bool, true, false, cond}
 use mathlib.Core.List.{List, [], ◌∷◌, map}
-use Prim.Native.Nat.{ℕ, zero, suc, ◌+◌, ◌*◌, ◌≤◌}
+use Prim.Native.Nat.{ℕ, zero, suc, ◌+◌, ◌*◌}
 use native.Mathlib.Nat.{suc-mul}
 use native.Mathlib.Omega.{arith}
 use lib.Dec.{eqb}
-use lib.ListN.{length, take, drop, length-append, length-drop}
-use Rattle.floor.specs.declared.Screen.TheVariants.{Passed}
+use lib.ListN.{length, take, drop, length-drop}
+use Rattle.floor.specs.Screen.{Passed}
 use Rattle.textlines.specs.Line.{LF}
-use Rattle.textrows.specs.declared.Cell.{Cell}
-use Rattle.textrows.specs.declared.Cell.TheVariants.{Weight, Blocked, NoCell}
+use Rattle.textrows.specs.Cell.{Cell, Weight, Blocked, NoCell, byte_in}
 use Rattle.textrows.specs.Chars.{cell_of}
 use Rattle.textrows.specs.Rows.{Rows, whole, fault, and_then, one_cell, read_row, read_rows}
-use Rattle.textrows.specs.Working.{is_cell, byte_for, byte_of, bytes_in, judged}
+use Rattle.textrows.specs.Working.{byte_for, byte_or_0, bytes_in, judged}
+use Rattle.std.specs.Option.{is_some}
 use Rattle.textrows.proofs.Judging.{row_there}
-use Rattle.textrows.proofs.Filling.{mapped_length}
 
 -- both parts of what passes have passed
 both : (r s : Rows) → judged (and_then r s) ≡ Passed → (judged r ≡ Passed) × (judged s ≡ Passed)
@@ -23,17 +22,17 @@ both (whole a) (whole b) e = (refl, refl)
 both (whole a) (fault n p) e = let z : ◌≡◌ {A = ℕ} 0 1 = cc in absurd (omega arith)
 both (fault n p) s e = let z : ◌≡◌ {A = ℕ} 0 1 = cc in absurd (omega arith)
 
-pub whole_cell : (cell : Cell) (at : ℕ) → is_cell cell ≡ true → one_cell cell at ≡ whole (byte_for cell ∷ [])
+pub whole_cell : (cell : Cell) (at : ℕ) → is_some (byte_in cell) ≡ true → one_cell cell at ≡ whole (byte_for cell ∷ [])
 whole_cell (Weight n) at e = refl
 whole_cell Blocked at e = refl
 whole_cell NoCell at e = let z : ◌≡◌ {A = ℕ} 0 1 = cc in absurd (omega arith)
 
-cell_there : (cell : Cell) (at : ℕ) → judged (one_cell cell at) ≡ Passed → is_cell cell ≡ true
+cell_there : (cell : Cell) (at : ℕ) → judged (one_cell cell at) ≡ Passed → is_some (byte_in cell) ≡ true
 cell_there (Weight n) at e = refl
 cell_there Blocked at e = refl
 cell_there NoCell at e = let z : ◌≡◌ {A = ℕ} 0 1 = cc in absurd (omega arith)
 
-whole_row : (w at : ℕ) (text : List ℕ) → judged (read_row w at text) ≡ Passed → read_row w at text ≡ whole (map byte_of (take w text))
+whole_row : (w at : ℕ) (text : List ℕ) → judged (read_row w at text) ≡ Passed → read_row w at text ≡ whole (map byte_or_0 (take w text))
 whole_row w at [] e = let z : ◌≡◌ {A = ℕ} 0 1 = cc in absurd (omega arith)
 whole_row zero at (b ∷ bs) e = go (eqb b LF) e
   where
@@ -57,10 +56,3 @@ rows_length w zero at (b ∷ bs) e = let z : ◌≡◌ {A = ℕ} 0 1 = cc in abs
 rows_length w (suc h) at text e =
     let p = both (read_row w at text) (read_rows w h (at + suc w) (drop (suc w) text)) e in
     omega (arith, row_there w at text p.0, rows_length w h (at + suc w) (drop (suc w) text) p.1, length-drop (suc w) text, suc-mul h (suc w))
-
-pub bytes_length : (w h : ℕ) (text : List ℕ) → h * suc w ≤ length text → length (bytes_in w h text) ≡ h * w
-bytes_length w zero text k = omega arith
-bytes_length w (suc h) text k =
-    let row : length (map byte_of (take w text)) ≡ w = mapped_length byte_of w text (omega (arith, suc-mul h (suc w))) in
-    let rest = bytes_length w h (drop (suc w) text) (omega (arith, suc-mul h (suc w), length-drop (suc w) text)) in
-    omega (arith, length-append (map byte_of (take w text)) (bytes_in w h (drop (suc w) text)), row, rest, suc-mul h w)

@@ -1,7 +1,6 @@
 -- A cell and its character, as it is read and as it is written.
 use Rattle.std.specs.Prelude.{cond, ◌&&◌, ℕ, zero, suc, ◌+◌, ◌-◌, eqb, ltb}
-use Rattle.textrows.specs.declared.Cell.{Cell}
-use Rattle.textrows.specs.declared.Cell.TheVariants.{Weight, Blocked, NoCell}
+use Rattle.textrows.specs.Cell.{Cell, Weight, Blocked, NoCell}
 
 -- `.` and `G` are weight 1, `1` to `9` their own weight, `@`, `O` and `T` blocked; all else is no cell character
 unfoldable pub cell_of : ℕ → Cell

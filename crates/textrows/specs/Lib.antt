@@ -1,3 +1,4 @@
+pub mod Cell
 pub mod Chars
 pub mod Rows
 pub mod Working

@@ -1,8 +1,7 @@
 -- The rows of a map text, as they are written and as they are read.
 use Rattle.std.specs.Prelude.{cond, List, [], ◌∷◌, ◌++◌, map, ℕ, zero, suc, ◌+◌, eqb, take, drop}
 use Rattle.textlines.specs.Line.{LF}
-use Rattle.textrows.specs.declared.Cell.{Cell}
-use Rattle.textrows.specs.declared.Cell.TheVariants.{Weight, Blocked, NoCell}
+use Rattle.textrows.specs.Cell.{Cell, Weight, Blocked, NoCell}
 use Rattle.textrows.specs.Chars.{cell_of, char_of}
 
 -- h rows of w characters, each with its LF

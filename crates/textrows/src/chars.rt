@@ -1,43 +1,19 @@
 // A cell and its character.
 ghost use Rattle.std.specs.Prelude.{◌≡◌, ◌≤◌};
 ghost use Rattle.floor.specs.Place.{greatest_weight};
+ghost use Rattle.textrows.specs.Cell.{byte_in};
 ghost use Rattle.textrows.specs.Chars.{char_of, cell_of};
-ghost use Rattle.textrows.specs.Working.{is_cell, byte_of};
 
-use crate::Cell;
-
-// 01: "A cell character is read by this rule".
-pub(crate) fn cell_of(b: u8) -> Cell
-    ensures { result ≡ cell_of b }
+// The byte of the cell in the map, if the character is a cell's. 01: "A cell character is read by this rule".
+#[tactic(auto, unfolding(crate::specs::Chars::cell_of))]
+pub(crate) fn byte_of(b: u8) -> Option<u8>
+    ensures { result ≡ byte_in (cell_of b) }
 {
     match b {
-        b'.' | b'G' => Cell::Weight(1),
-        b'1'..=b'9' => Cell::Weight(b - b'0'),
-        b'@' | b'O' | b'T' => Cell::Blocked,
-        _ => Cell::NoCell,
-    }
-}
-
-pub(crate) fn is_cell(b: u8) -> bool
-    ensures { result ≡ is_cell (cell_of b) }
-{
-    let cell = cell_of(b);
-    match cell {
-        Cell::Weight(_) => true,
-        Cell::Blocked => true,
-        Cell::NoCell => false,
-    }
-}
-
-// The byte of a cell in the map. The reader asks for it where all characters are known to be cells.
-pub(crate) fn byte_of(b: u8) -> u8
-    ensures { result ≡ byte_of b }
-{
-    let cell = cell_of(b);
-    match cell {
-        Cell::Weight(weight) => weight,
-        Cell::Blocked => 0,
-        Cell::NoCell => 0,
+        b'.' | b'G' => Some(1),
+        b'1'..=b'9' => Some(b - b'0'),
+        b'@' | b'O' | b'T' => Some(0),
+        _ => None,
     }
 }
 

@@ -4,11 +4,3 @@
 
 mod chars; // chars.rt: a cell and its character
 pub mod rows; // rows.rt: from rows to cells, and back
-
-// What a character of a row means.
-#[derive(Clone, Copy)]
-pub enum Cell {
-    Weight(u8),
-    Blocked,
-    NoCell,
-}
