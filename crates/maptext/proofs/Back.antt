@@ -5,7 +5,7 @@ use mathlib.Core.List.{List, ◌++◌, append_assoc}
 use Prim.Native.Nat.{ℕ, ◌+◌, ◌*◌, ◌≤◌, ◌<◌}
 use lib.ListN.{length, drop}
 use lib.Seq.{drop-drop, drop-append_seam}
-use Rattle.floor.specs.declared.Screen.TheVariants.{Passed}
+use Rattle.floor.specs.Screen.{Passed}
 use Rattle.floor.specs.Place.{greatest_side}
 use Rattle.floor.specs.Refusal.{screen}
 use Rattle.textlines.specs.Line.{side_line, begins}

@@ -8,23 +8,21 @@ use Prim.Native.Nat.{ℕ, zero, suc, ◌≤◌, ◌<◌}
 use native.Mathlib.Omega.{arith}
 use lib.ListN.{length, take, drop}
 use Rattle.floor.specs.declared.Floor.{Floor}
-use Rattle.floor.specs.declared.Screen.{Screen}
-use Rattle.floor.specs.declared.Screen.TheVariants.{Passed, Refused}
+use Rattle.floor.specs.Screen.{Screen, Passed, Refused}
 use Rattle.floor.specs.Place.{cells}
 use Rattle.floor.specs.Refusal.{line, screen}
 use Rattle.floor.specs.LowestLine.{IsLowestLine}
-use Rattle.floor.specs.Numbers.{Numbers, refused, gives, after_screen}
+use Rattle.floor.specs.Numbers.{refused, gives, after_screen, written_numbers}
 use Rattle.floor.proofs.Lines.{above, lowest_line, refused_lines, by_lines}
-use Rattle.maptext.specs.declared.Read.{Read}
 use Rattle.maptext.specs.declared.ReadNumbers.{ReadNumbers}
-use Rattle.maptext.specs.declared.Written.TheVariants.{Length}
-use Rattle.maptext.specs.declared.WrittenNumbers.{WrittenNumbers}
+use Rattle.std.specs.Prelude.{Ok}
+use Rattle.floor.specs.declared.written.WrittenNumbers.{WrittenNumbers}
 use Rattle.maptext.specs.Text.{header, text_of, write_lines, text_left, IsWritten}
-use Rattle.maptext.specs.Reading as reading
-use Rattle.maptext.specs.Reading.{Reading, read, header_lines, reading_of, read_for, cells_left, IsRead}
+use Rattle.maptext.specs.Reading.{Reading, read, header_lines, reading_of, read_for, cells_left}
 use Rattle.maptext.specs.Faults.{IsWrong, no_cell, no_line_end, too_soon, further, IsFirstFault}
-use Rattle.maptext.specs.Calls.{read_numbers, written_numbers, ReadCalled, WriteCalled}
-use Rattle.maptext.proofs.Texts.{read_of, reads_back}
+use Rattle.maptext.specs.Calls.{read_numbers, ReadCalled, WriteCalled}
+use Rattle.maptext.proofs.Texts.{read_written}
+use Rattle.maptext.proofs.Writing.{text_left_lem}
 use Rattle.maptext.proofs.Refusals.{refused_exactly}
 
 -- A second result that keeps the promise of a call is equal
@@ -81,15 +79,6 @@ zero_unrefused text room x e = (
     go (Reading.refused n p) k none = absurd (none n p ((refused_exactly text room n p).0 k))
     go (read w h m) k none = refl
 
--- the answer of the reader with these numbers
-read_again : (x : Reading) → reading.numbers_of (read_of (read_for x)) ≡ read_for x
-read_again (Reading.refused n p) = refl
-read_again (read w h m) = refl
-
-pub called_read : (text room : List ℕ) (x : ReadNumbers) (room' : List ℕ) → ReadCalled text room x room'
-    → IsRead text room (read_of (read_for (reading_of text (length room)))) room'
-called_read text room x room' c = record { answers = read_again (reading_of text (length room)); leaves = c.leaves }
-
 -- no text is empty, and a refusal has the length 0
 abbrev of_length : ℕ → ℕ → ℕ → Screen
 of_length zero n p = Refused n p
@@ -120,10 +109,10 @@ module _ (f : Floor) (m room : List ℕ) (x : WrittenNumbers) (room' : List ℕ)
       ∙ ap (text_left (text_of f.width f.height m) room) (refused_lines numbers_for screen_in screen_back (write_lines f m (length room)) c.numbers n p e)
 
   -- a call that is not refused has written
-  pub called_written : x.refusal ≡ 0 → IsWritten f m room (Length x.length) room'
+  pub called_written : x.refusal ≡ 0 → IsWritten f m room (Ok x.length) room'
   called_written z = go (screen (write_lines f m (length room))) refl
     where
-      go : (s : Screen) → screen (write_lines f m (length room)) ≡ s → IsWritten f m room (Length x.length) room'
+      go : (s : Screen) → screen (write_lines f m (length room)) ≡ s → IsWritten f m room (Ok x.length) room'
       go Passed e = let n : x ≡ numbers_for Passed = rw e at c.numbers in record { answers = rw (e, n) refl; leaves = c.leaves }
       go (Refused n p) e =
           let low = (lowest_line (write_lines f m (length room)) 0 tt n p).0 e in
@@ -135,7 +124,7 @@ pub calls_back : (f : Floor) (m room room' : List ℕ) (x : WrittenNumbers) → 
     → (cellRoom : List ℕ) (y : ReadNumbers) (cellRoom' : List ℕ) → ReadCalled (take x.length room') cellRoom y cellRoom' → cells f ≤ length cellRoom
     → (y ≡ read_numbers (gives (f.width ∷ f.height ∷ 8 ∷ []))) × (cellRoom' ≡ m ++ drop (length m) cellRoom)
 calls_back f m room room' x w z cellRoom y cellRoom' r h =
-    let text = take x.length room' in
-    let found = reading_of text (length cellRoom) in
-    let back = reads_back f m room room' cellRoom cellRoom' x.length (read_of (read_for found)) (called_written f m room x room' w z) (called_read text cellRoom y cellRoom' r) h in
-    (r.numbers ∙ ap read_numbers (sym (read_again found) ∙ ap reading.numbers_of back.0), back.1)
+    let w = text_left_lem f m room room' x.length (called_written f m room x room' w z) in
+    let e = read_written f m (length cellRoom) w.passed h in
+    let y = rw w.text at r in
+    (rw e at y.numbers, rw e at y.leaves)

@@ -12,8 +12,7 @@ use lib.Dec.{eqb, ltb}
 use lib.ListN.{length, get_or, drop, length-drop}
 use lib.Seq.{get_or-drop, drop-drop}
 use Rattle.textlines.specs.Line.{LF}
-use Rattle.textrows.specs.declared.Cell.{Cell}
-use Rattle.textrows.specs.declared.Cell.TheVariants.{Weight, Blocked, NoCell}
+use Rattle.textrows.specs.Cell.{Cell, Weight, Blocked, NoCell}
 use Rattle.textrows.specs.Chars.{cell_of}
 use Rattle.textrows.specs.Rows.{Rows, whole, fault, and_then, one_cell, read_row, read_rows}
 use Rattle.maptext.specs.Reading.{height_in, width_in, rows_at, rows_in}

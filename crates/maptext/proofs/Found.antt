@@ -6,8 +6,7 @@ use native.Mathlib.Nat.{mul_comm, mul-pos, le_of_eq}
 use native.Mathlib.Omega.{arith}
 use lib.Dec.{nltb→le}
 use lib.ListN.{length, drop, length-drop}
-use Rattle.floor.specs.declared.Screen.{Screen}
-use Rattle.floor.specs.declared.Screen.TheVariants.{Passed, Refused}
+use Rattle.floor.specs.Screen.{Screen, Passed, Refused}
 use Rattle.floor.specs.Place.{greatest_side, cells}
 use Rattle.floor.specs.Refusal.{screen}
 use Rattle.floor.proofs.Screens.{none_given}
@@ -16,7 +15,8 @@ use Rattle.textrows.specs.Rows.{Rows, whole, fault, read_rows}
 use Rattle.textrows.specs.Working.{bytes_in, judged}
 use Rattle.maptext.specs.Reading.{read, height_in, width_in, rows_at, header_lines, of_rows, after_header, reading_of, rows_in}
 use Rattle.textlines.proofs.Sides.{side_positive}
-use Rattle.textrows.proofs.Whole.{whole_rows, rows_length, bytes_length}
+use Rattle.textrows.proofs.Filling.{bytes_length}
+use Rattle.textrows.proofs.Whole.{whole_rows, rows_length}
 use Rattle.textrows.proofs.Weights.{weights_bytes}
 
 whole_inj : {m n : List ℕ} → whole m ≡ whole n → m ≡ n

@@ -1,32 +1,24 @@
 -- How long a header, rows and a text are, and that no text is longer than that of the greatest floor.
 use mathlib.Core.Path.{◌≡◌}
-use mathlib.Core.List.{List, ◌∷◌, map}
-use Prim.Native.Nat.{ℕ, zero, suc, ◌+◌, ◌*◌, ◌≤◌, suc-le-suc}
-use native.Mathlib.Nat.{mul_comm, suc-mul, mul-le-mul}
+use mathlib.Core.List.{List}
+use Prim.Native.Nat.{ℕ, suc, ◌+◌, ◌*◌, ◌≤◌, suc-le-suc}
+use native.Mathlib.Nat.{mul_comm, mul-le-mul}
 use native.Mathlib.Omega.{arith}
-use lib.ListN.{length, take, drop, length-append, length-drop}
+use lib.ListN.{length, length-append}
 use Rattle.floor.specs.declared.Floor.{Floor}
-use Rattle.floor.specs.declared.Screen.TheVariants.{Passed}
+use Rattle.floor.specs.Screen.{Passed}
 use Rattle.floor.specs.Place.{greatest_side}
 use Rattle.floor.specs.Refusal.{screen, map_lines}
 use Rattle.floor.proofs.Passing.{map_facts}
-use Rattle.textlines.specs.Line.{LF, side_line}
+use Rattle.textlines.specs.Line.{side_line}
 use Rattle.textlines.proofs.Decimals.{line_length}
-use Rattle.textrows.specs.Chars.{char_of}
 use Rattle.textrows.specs.Rows.{rows}
 use Rattle.maptext.specs.Text.{height_word, width_word, header, text_of}
-use Rattle.textrows.proofs.Filling.{mapped_length}
+use Rattle.textrows.proofs.Filling.{rows_text_length}
 
 pub header_length : (w h : ℕ) → length (header w h) ≡ 12 + length (side_line height_word h) + length (side_line width_word w) + 4
 unfolding header
 header_length w h = simp length-append
-
-rows_text_length : (w h : ℕ) (m : List ℕ) → h * w ≤ length m → length (rows w h m) ≡ h * suc w
-rows_text_length w zero m k = omega arith
-rows_text_length w (suc h) m k =
-    let row : length (map char_of (take w m)) ≡ w = mapped_length char_of w m (omega (arith, suc-mul h w)) in
-    let rest = rows_text_length w h (drop w m) (omega (arith, suc-mul h w, length-drop w m)) in
-    omega (arith, length-append (map char_of (take w m)) (LF ∷ rows w h (drop w m)), row, rest, suc-mul h (suc w))
 
 pub text_length : (w h : ℕ) (m : List ℕ) → h * w ≤ length m → length (text_of w h m) ≡ length (header w h) + h * suc w
 unfolding text_of

@@ -10,8 +10,7 @@ use borrow.Author.Tests.{le-ltb}
 use lib.Dec.{T, eqb, eqb→eq, nltb→le}
 use lib.ListN.{length, get_or, take, drop, length-append}
 use Rattle.paths.proofs.Bools.{T_true, not_T_false, T_and, T_not-not}
-use Rattle.floor.specs.declared.Screen.{Screen}
-use Rattle.floor.specs.declared.Screen.TheVariants.{Passed, Refused}
+use Rattle.floor.specs.Screen.{Screen, Passed, Refused}
 use Rattle.floor.specs.Place.{greatest_side}
 use Rattle.floor.specs.Refusal.{Line, line, screen}
 use Rattle.floor.specs.LowestLine.{Has}

@@ -8,9 +8,10 @@ use lib.Seq.{sets}
 use Rattle.floor.specs.declared.Floor.{Floor}
 use Rattle.floor.specs.Place.{greatest_side, cells}
 use Rattle.textrows.specs.Working.{bytes_in}
-use Rattle.maptext.specs.declared.Read.{Read}
-use Rattle.maptext.specs.declared.Read.TheVariants.{Map}
-use Rattle.maptext.specs.Reading.{Reading, refused, read, rows_at, reading_of, numbers_of, read_for, cells_left, IsRead}
+use Rattle.std.specs.Prelude.{Result}
+use Rattle.std.specs.Prelude.{Ok}
+use Rattle.floor.specs.declared.refusals.Refusal.{Refusal}
+use Rattle.maptext.specs.Reading.{Reading, refused, read, rows_at, reading_of, numbers_of, read_for, IsRead}
 use Rattle.putting.proofs.Puts.{sets_whole}
 use Rattle.maptext.proofs.Found.{IsFound, found, found_room, found_bytes, found_facts, found_end}
 
@@ -20,23 +21,15 @@ pub record HasMap (text : List ℕ) (room : ℕ) (f : Floor) : Type 0 where
   pub reading : reading_of text room ≡ read f.width f.height map
   pub ways : f.ways ≡ 8
 
-pub has_map : (text : List ℕ) (room : ℕ) (f : Floor) {r : Read} → r ≡ Map f → numbers_of r ≡ read_for (reading_of text room) → HasMap text room f
+pub has_map : (text : List ℕ) (room : ℕ) (f : Floor) {r : Result Floor Refusal} → r ≡ Ok f → numbers_of r ≡ read_for (reading_of text room) → HasMap text room f
 has_map text room f given e = go (reading_of text room) refl (ap numbers_of (sym given) ∙ e)
   where
-    go : (x : Reading) → reading_of text room ≡ x → numbers_of (Map f) ≡ read_for x → HasMap text room f
+    go : (x : Reading) → reading_of text room ≡ x → numbers_of (Ok f) ≡ read_for x → HasMap text room f
     go (refused n p) r e = let z : ◌≡◌ {A = ℕ} 0 1 = cc in absurd (omega arith)
     go (read w h m) r e =
         let width : f.width ≡ w = cc in
         let height : f.height ≡ h = cc in
         record { map = m; reading = rw (width, height) r; ways = cc }
-
--- a refusal alters nothing
-pub left_refused : (text room : List ℕ) (n p : ℕ) {r : Read} → r ≡ Read.Refused n p → numbers_of r ≡ read_for (reading_of text (length room)) → IsRead text room r room
-left_refused text room n p given e = record { answers = e; leaves = go (reading_of text (length room)) (ap numbers_of (sym given) ∙ e) }
-  where
-    go : (x : Reading) → numbers_of (Read.Refused n p) ≡ read_for x → room ≡ cells_left x room
-    go (refused n p) e = refl
-    go (read w h m) e = let z : ◌≡◌ {A = ℕ} 0 1 = cc in absurd (omega arith)
 
 module _ {text : List ℕ} {room : ℕ} {f : Floor} (x : HasMap text room f) where
   is_found : IsFound text room f.width f.height x.map
@@ -52,7 +45,7 @@ module _ {text : List ℕ} {room : ℕ} {f : Floor} (x : HasMap text room f) whe
   width_small = (found_facts is_found).wide_top
 
 pub left_stored : {text room room' : List ℕ} {f : Floor} → HasMap text (length room) f
-    → room' ≡ sets room 0 (bytes_in f.width f.height (drop (length text - f.height * (f.width + 1)) text)) → IsRead text room (Map f) room'
+    → room' ≡ sets room 0 (bytes_in f.width f.height (drop (length text - f.height * (f.width + 1)) text)) → IsRead text room (Ok f) room'
 left_stored {text} {room} {room'} {f} x e =
     let y = is_found x in
     let start : length text - f.height * (f.width + 1) ≡ rows_at text = omega (arith, rows_start x) in

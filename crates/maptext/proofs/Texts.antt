@@ -7,43 +7,48 @@ use native.Mathlib.Nat.{mul_comm}
 use native.Mathlib.Omega.{arith}
 use lib.ListN.{length, get_or, take, drop}
 use Rattle.floor.specs.declared.Floor.{Floor}
-use Rattle.floor.specs.declared.Screen.TheVariants.{Passed}
+use Rattle.floor.specs.Screen.{Passed}
 use Rattle.floor.specs.Place.{cells}
 use Rattle.floor.specs.Refusal.{screen, map_lines}
 use Rattle.floor.proofs.Passing.{map_facts, facts_pass}
-use Rattle.floor.specs.Numbers.{Numbers, refused, fault, gives}
+use Rattle.floor.specs.Numbers.{Numbers, refused, fault, gives, written_as}
+use Rattle.floor.proofs.Numbered.{same_refusal, same_written}
 use Rattle.textlines.specs.Line.{side_line}
 use Rattle.textrows.specs.Rows.{rows}
-use Rattle.maptext.specs.declared.Read.{Read}
-use Rattle.maptext.specs.declared.Read.TheVariants.{Map}
-use Rattle.maptext.specs.declared.Written.{Written}
-use Rattle.maptext.specs.declared.Written.TheVariants.{Length}
-use Rattle.maptext.specs.Text as text
-use Rattle.maptext.specs.Reading as reading
+use Rattle.std.specs.Prelude.{Result}
+use Rattle.std.specs.Prelude.{Ok, Err}
+use Rattle.floor.specs.declared.refusals.Refusal.{Refusal}
 use Rattle.maptext.specs.Text.{header, text_of, IsWritten, CouldWrite}
-use Rattle.maptext.specs.Reading.{read, reading_of, IsRead}
+use Rattle.maptext.specs.Reading.{read, reading_of, numbers_of, IsRead}
 use Rattle.maptext.proofs.Writing.{text_left_lem}
 use Rattle.maptext.proofs.Back.{lines, header_lines_lem, height_back, width_back, lines_back}
 use Rattle.maptext.proofs.Found.{found, found_room, found_facts}
 
--- an answer is the only one with its numbers
-abbrev pub read_of : Numbers → Read
-read_of (refused n p) = Read.Refused n p
-read_of (fault n p) = Read.Refused n p
-read_of (gives vs) = Map (record { width = get_or vs 0 0; height = get_or vs 1 0; ways = get_or vs 2 0 })
+-- what numbers tell
+abbrev number_in : Numbers → ℕ
+number_in (refused n p) = n
+number_in (fault n p) = n
+number_in (gives vs) = 0
 
-pub read_back : (r : Read) → read_of (reading.numbers_of r) ≡ r
-read_back (Map f) = refl
-read_back (Read.Refused n p) = refl
+abbrev place_in : Numbers → ℕ
+place_in (refused n p) = p
+place_in (fault n p) = p
+place_in (gives vs) = 0
 
-abbrev pub written_of : Numbers → Written
-written_of (refused n p) = Written.Refused n p
-written_of (fault n p) = Written.Refused n p
-written_of (gives vs) = Length (get_or vs 0 0)
+abbrev values_in : Numbers → List ℕ
+values_in (refused n p) = []
+values_in (fault n p) = []
+values_in (gives vs) = vs
 
-pub written_is : (r : Written) → written_of (text.numbers_of r) ≡ r
-written_is (Length n) = refl
-written_is (Written.Refused n p) = refl
+abbrev floor_of : List ℕ → Floor
+floor_of vs = record { width = get_or vs 0 0; height = get_or vs 1 0; ways = get_or vs 2 0 }
+
+-- two answers of the reader with the same numbers are equal
+pub same_read : (r s : Result Floor Refusal) → numbers_of r ≡ numbers_of s → r ≡ s
+same_read (Ok f) (Ok g) e = ap (λ (n : Numbers). Ok (floor_of (values_in n))) e
+same_read (Ok f) (Err b) e = let z : ◌≡◌ {A = ℕ} 0 1 = cc in absurd (omega arith)
+same_read (Err a) (Ok g) e = let z : ◌≡◌ {A = ℕ} 0 1 = cc in absurd (omega arith)
+same_read (Err a) (Err b) e = ap Err (same_refusal a b (ap number_in e) (ap place_in e))
 
 text_lines : (w h : ℕ) (m : List ℕ) → text_of w h m ≡ lines w h (rows w h m)
 unfolding text_of
@@ -58,14 +63,14 @@ read_written f m room p h =
     (lines_back f.width f.height m k.wide k.wide_top k.high k.high_top (k.covers ∙ mul_comm f.width f.height) k.weights room h)
 
 -- the same of the two functions: what was written, given to the reader
-pub reads_back : (f : Floor) (m room room' cellRoom cellRoom' : List ℕ) (n : ℕ) (r : Read) → IsWritten f m room (Length n) room'
+pub reads_back : (f : Floor) (m room room' cellRoom cellRoom' : List ℕ) (n : ℕ) (r : Result Floor Refusal) → IsWritten f m room (Ok n) room'
     → IsRead (take n room') cellRoom r cellRoom' → cells f ≤ length cellRoom
-    → (r ≡ Map (record { width = f.width; height = f.height; ways = 8 })) × (cellRoom' ≡ m ++ drop (length m) cellRoom)
+    → (r ≡ Ok (record { width = f.width; height = f.height; ways = 8 })) × (cellRoom' ≡ m ++ drop (length m) cellRoom)
 reads_back f m room room' cellRoom cellRoom' n r w x h =
     let a = text_left_lem f m room room' n w in
     let y = rw a.text at x in
     let e = read_written f m (length cellRoom) a.passed h in
-    (sym (read_back r) ∙ ap read_of (rw e at y.answers), rw e at y.leaves)
+    (same_read r (Ok (record { width = f.width; height = f.height; ways = 8 })) (rw e at y.answers), rw e at y.leaves)
 
 -- two maps with the same text are the same map, ways apart
 pub same_text : (f g : Floor) (m n : List ℕ) → screen (map_lines f m) ≡ Passed → screen (map_lines g n) ≡ Passed
@@ -108,14 +113,14 @@ written_back text room w h m e = (
 )
 
 -- a second result that keeps the reader's promise is equal
-pub one_reading : (text room : List ℕ) {r s : Read} {room₁ room₂ : List ℕ} → IsRead text room r room₁ → IsRead text room s room₂
+pub one_reading : (text room : List ℕ) {r s : Result Floor Refusal} {room₁ room₂ : List ℕ} → IsRead text room r room₁ → IsRead text room s room₂
     → (r ≡ s) × (room₁ ≡ room₂)
-one_reading text room {r} {s} x y = (sym (read_back r) ∙ ap read_of (x.answers ∙ sym y.answers) ∙ read_back s, x.leaves ∙ sym y.leaves)
+one_reading text room {r} {s} x y = (same_read r s (x.answers ∙ sym y.answers), x.leaves ∙ sym y.leaves)
 
 -- and so for the writer's
-pub one_writing : (f : Floor) (m room : List ℕ) {r s : Written} {room₁ room₂ : List ℕ} → IsWritten f m room r room₁ → IsWritten f m room s room₂
+pub one_writing : (f : Floor) (m room : List ℕ) {r s : Result ℕ Refusal} {room₁ room₂ : List ℕ} → IsWritten f m room r room₁ → IsWritten f m room s room₂
     → (r ≡ s) × (room₁ ≡ room₂)
-one_writing f m room {r} {s} x y = (sym (written_is r) ∙ ap written_of (x.answers ∙ sym y.answers) ∙ written_is s, x.leaves ∙ sym y.leaves)
+one_writing f m room {r} {s} x y = (same_written r s (x.answers ∙ sym y.answers), x.leaves ∙ sym y.leaves)
 
 -- 01's example, `.@.` over `...`: `type octile`, `height 2`, `width 3`, `map` and the rows, each with LF
 abbrev example : List ℕ

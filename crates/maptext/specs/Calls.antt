@@ -1,10 +1,10 @@
 -- What the calls from C promise: the numbers of the reader and the writer in a struct, in which those that a case does not have are 0.
 use Rattle.std.specs.Prelude.{◌≡◌, List, ℕ, length, get_or}
 use Rattle.floor.specs.declared.Floor.{Floor}
-use Rattle.floor.specs.Numbers.{Numbers, refused, fault, gives}
+use Rattle.floor.specs.declared.written.WrittenNumbers.{WrittenNumbers}
+use Rattle.floor.specs.Numbers.{Numbers, refused, fault, gives, written_numbers}
 use Rattle.floor.specs.Refusal.{screen}
 use Rattle.maptext.specs.declared.ReadNumbers.{ReadNumbers}
-use Rattle.maptext.specs.declared.WrittenNumbers.{WrittenNumbers}
 use Rattle.maptext.specs.Text.{text_of, write_lines, written_for, text_left}
 use Rattle.maptext.specs.Reading.{reading_of, read_for, cells_left}
 
@@ -13,12 +13,6 @@ abbrev pub read_numbers : Numbers → ReadNumbers
 read_numbers (refused n p) = record { refusal = n; place = p; width = 0; height = 0; ways = 0 }
 read_numbers (fault n p) = record { refusal = n; place = p; width = 0; height = 0; ways = 0 }
 read_numbers (gives vs) = record { refusal = 0; place = 0; width = get_or vs 0 0; height = get_or vs 1 0; ways = get_or vs 2 0 }
-
--- refusal and place, or the text's length
-abbrev pub written_numbers : Numbers → WrittenNumbers
-written_numbers (refused n p) = record { refusal = n; place = p; length = 0 }
-written_numbers (fault n p) = record { refusal = n; place = p; length = 0 }
-written_numbers (gives vs) = record { refusal = 0; place = 0; length = get_or vs 0 0 }
 
 -- the promise of the reader's call: its numbers and its room are the reader's
 pub record ReadCalled (text room : List ℕ) (n : ReadNumbers) (room' : List ℕ) : Type 0 where

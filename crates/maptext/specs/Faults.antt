@@ -1,11 +1,11 @@
 -- What is wrong with a text that is no map, in 01's words: the first fault met in its rows, and a text that ends inside its header.
 use Rattle.std.specs.Prelude.{◌≡◌, ◌≢◌, ◌⊎◌, List, [], ◌++◌, ℕ, suc, ◌+◌, ◌*◌, ◌%◌, ◌<◌, T, length, get_or}
-use Rattle.floor.specs.declared.Screen.TheVariants.{Passed}
+use Rattle.floor.specs.Screen.{Passed}
 use Rattle.floor.specs.Place.{is_side}
 use Rattle.floor.specs.Refusal.{screen}
 use Rattle.floor.specs.LowestLine.{IsLowestLine}
 use Rattle.textlines.specs.Line.{LF, side_line}
-use Rattle.textrows.specs.declared.Cell.TheVariants.{NoCell}
+use Rattle.textrows.specs.Cell.{NoCell}
 use Rattle.textrows.specs.Chars.{cell_of}
 use Rattle.maptext.specs.Text.{type_line, height_word, width_word}
 use Rattle.maptext.specs.Reading.{height_in, width_in, rows_at, header_lines}

@@ -2,4 +2,3 @@ pub mod Text
 pub mod Reading
 pub mod Faults
 pub mod Calls
-pub mod Working

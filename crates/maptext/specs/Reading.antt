@@ -1,14 +1,13 @@
 -- What a text reads as: a map, or the first refusal of 21 to 29 in 01's order.
-use Rattle.std.specs.Prelude.{◌≡◌, not, List, [], ◌∷◌, ◌++◌, ℕ, ◌+◌, ◌*◌, ltb, length, drop}
-use Rattle.floor.specs.declared.Screen.{Screen}
-use Rattle.floor.specs.declared.Screen.TheVariants.{Passed, Refused}
+use Rattle.std.specs.Prelude.{◌≡◌, not, Result, Ok, Err, List, [], ◌∷◌, ◌++◌, ℕ, ◌+◌, ◌*◌, ltb, length, drop}
+use Rattle.floor.specs.declared.Floor.{Floor}
+use Rattle.floor.specs.declared.refusals.Refusal.{Refusal}
+use Rattle.floor.specs.Screen.{Screen, Passed, Refused}
 use Rattle.floor.specs.Place.{greatest_side}
 use Rattle.floor.specs.Refusal.{Line, line, screen}
-use Rattle.floor.specs.Numbers.{Numbers, gives}
+use Rattle.floor.specs.Numbers.{Numbers, gives, refused_as}
 use Rattle.textlines.specs.Line.{side_line, begins, side_in}
 use Rattle.textrows.specs.Rows.{Rows, whole, fault, read_rows}
-use Rattle.maptext.specs.declared.Read.{Read}
-use Rattle.maptext.specs.declared.Read.TheVariants.{Map}
 use Rattle.maptext.specs.Text.{type_line, height_word, width_word, map_line}
 
 -- where the lines of a header start, and the sides that they give
@@ -57,9 +56,9 @@ unfoldable pub reading_of : List ℕ → ℕ → Reading
 reading_of text room = after_header text (screen (header_lines text room))
 
 -- 01's numbers of each case: width, height and ways, or the refusal
-abbrev pub numbers_of : Read → Numbers
-numbers_of (Map f) = gives (f.width ∷ f.height ∷ f.ways ∷ [])
-numbers_of (Read.Refused n p) = Numbers.refused n p
+abbrev pub numbers_of : Result Floor Refusal → Numbers
+numbers_of (Ok f) = gives (f.width ∷ f.height ∷ f.ways ∷ [])
+numbers_of (Err r) = refused_as r
 
 -- the reader's answer, in which ways is always 8, and what its room holds afterwards
 abbrev pub read_for : Reading → Numbers
@@ -71,6 +70,6 @@ cells_left (refused n p) room = room
 cells_left (read w h m) room = m ++ drop (length m) room
 
 -- the reader's promise, for a room of any length and content
-pub record IsRead (text room : List ℕ) (r : Read) (room' : List ℕ) : Type 0 where
+pub record IsRead (text room : List ℕ) (r : Result Floor Refusal) (room' : List ℕ) : Type 0 where
   pub answers : numbers_of r ≡ read_for (reading_of text (length room))
   pub leaves : room' ≡ cells_left (reading_of text (length room)) room

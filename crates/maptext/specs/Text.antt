@@ -1,14 +1,12 @@
 -- The text of a map, as the writer writes it.
-use Rattle.std.specs.Prelude.{◌≡◌, List, [], ◌∷◌, ◌++◌, ℕ, ltb, length, drop}
+use Rattle.std.specs.Prelude.{◌≡◌, Result, List, [], ◌∷◌, ◌++◌, ℕ, ltb, length, drop}
 use Rattle.floor.specs.declared.Floor.{Floor}
-use Rattle.floor.specs.declared.Screen.{Screen}
-use Rattle.floor.specs.declared.Screen.TheVariants.{Passed, Refused}
+use Rattle.floor.specs.declared.refusals.Refusal.{Refusal}
+use Rattle.floor.specs.Screen.{Screen, Passed, Refused}
 use Rattle.floor.specs.Refusal.{Line, line, screen, map_lines}
-use Rattle.floor.specs.Numbers.{Numbers, refused, gives, after_screen}
+use Rattle.floor.specs.Numbers.{Numbers, gives, after_screen, written_as}
 use Rattle.textlines.specs.Line.{LF, side_line}
 use Rattle.textrows.specs.Rows.{rows}
-use Rattle.maptext.specs.declared.Written.{Written}
-use Rattle.maptext.specs.declared.Written.TheVariants.{Length}
 
 -- `type octile`, `height `, `width `, `map`
 abbrev pub type_line : List ℕ
@@ -33,11 +31,6 @@ text_of w h m = header w h ++ rows w h m
 abbrev pub write_lines : Floor → List ℕ → ℕ → List Line
 write_lines f m room = map_lines f m ++ (line 30 (ltb room (length (text_of f.width f.height m))) 0 ∷ [])
 
--- 01's numbers of each case: the text's length, or the refusal
-abbrev pub numbers_of : Written → Numbers
-numbers_of (Length n) = gives (n ∷ [])
-numbers_of (Written.Refused n p) = refused n p
-
 -- the writer's answer, for a room of that length, and what the room holds afterwards
 abbrev pub written_for : Floor → List ℕ → ℕ → Numbers
 written_for f m room = after_screen (screen (write_lines f m room)) (gives (length (text_of f.width f.height m) ∷ []))
@@ -47,8 +40,8 @@ text_left text room Passed = text ++ drop (length text) room
 text_left text room (Refused n p) = room
 
 -- the writer's promise, for a room of any length and content
-pub record IsWritten (f : Floor) (m room : List ℕ) (r : Written) (room' : List ℕ) : Type 0 where
-  pub answers : numbers_of r ≡ written_for f m (length room)
+pub record IsWritten (f : Floor) (m room : List ℕ) (r : Result ℕ Refusal) (room' : List ℕ) : Type 0 where
+  pub answers : written_as r ≡ written_for f m (length room)
   pub leaves : room' ≡ text_left (text_of f.width f.height m) room (screen (write_lines f m (length room)))
 
 -- the writer could have written the text: it is the text of a floor and a map that pass 1 to 3

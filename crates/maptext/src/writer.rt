@@ -2,11 +2,11 @@
 ghost use Rattle.std.specs.Prelude.{◌≡◌, suc, ◌+◌, ◌*◌, ◌≤◌, ◌<◌, length};
 ghost use Rattle.floor.specs.Place.{greatest_side, floor_of};
 ghost use Rattle.putting.specs.Put.{IsPut};
-ghost use Rattle.maptext.specs.Text.{header, numbers_of, IsWritten};
-ghost use Rattle.maptext.specs.Calls.{written_numbers, WriteCalled};
+ghost use Rattle.maptext.specs.Text.{header, IsWritten};
+ghost use Rattle.maptext.specs.Calls.{WriteCalled};
 
-use crate::{Written, WrittenNumbers};
-use floor::{Floor, Screen};
+use floor::written::written_numbers;
+use floor::{Floor, Refusal, WrittenNumbers};
 use putting::put;
 use screens::screen_map;
 use textlines::lines::{put_side_line, side_line_length};
@@ -31,44 +31,18 @@ fn text_length(width: usize, height: usize) -> usize
 }
 
 // The writer applies 1 to 3 and then 30, and does not look at ways.
-pub fn write_map(f: Floor, map: &[u8], text: &mut [u8]) -> Written
+pub fn write_map(f: Floor, map: &[u8], text: &mut [u8]) -> Result<usize, Refusal>
     ensures { IsWritten f map.now text.old result text.new }
 {
-    let tried = screen_map(f, map);
-    match tried {
-        Screen::Refused(number, place) => Written::Refused(number, place),
-        Screen::Passed => {
-            let width = f.width;
-            let height = f.height;
-            if text.len() < text_length(width, height) {
-                return Written::Refused(30, 0);
-            }
-            let rows_at = put_header(width, height, text);
-            let end = put_rows(width, height, map, text, rows_at);
-            Written::Length(end)
-        }
+    screen_map(f, map)?;
+    if text.len() < text_length(f.width, f.height) {
+        return Err(Refusal::ShortText);
     }
+    let rows_at = put_header(f.width, f.height, text);
+    Ok(put_rows(f.width, f.height, map, text, rows_at))
 }
 
-fn written_numbers(written: Written) -> WrittenNumbers
-    ensures { result ≡ written_numbers (numbers_of written) }
-{
-    match written {
-        Written::Length(length) => WrittenNumbers {
-            refusal: 0,
-            place: 0,
-            length: length as u64,
-        },
-        Written::Refused(number, place) => WrittenNumbers {
-            refusal: number as u64,
-            place: place as u64,
-            length: 0,
-        },
-    }
-}
-
-// The writer for callers from C. Both sides come in at 32 bits and are widened, so that neither is narrowed before it is judged; 8 is
-// what the reader gives for ways.
+// The writer for callers from C. 8 is what the reader gives for ways.
 #[unsafe(no_mangle)]
 pub extern "C" fn fradnumber_write_map(
     width: u32,
@@ -78,11 +52,5 @@ pub extern "C" fn fradnumber_write_map(
 ) -> WrittenNumbers
     ensures { WriteCalled (floor_of width height 8) map.now text.old result text.new }
 {
-    let f = Floor {
-        width: width as usize,
-        height: height as usize,
-        ways: 8,
-    };
-    let written = write_map(f, map, text);
-    written_numbers(written)
+    written_numbers(write_map(Floor::of(width, height, 8), map, text))
 }
