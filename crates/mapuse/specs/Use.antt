@@ -1,6 +1,7 @@
 -- Which maps the program can use: 01, "The program".
-use Rattle.std.specs.Prelude.{◌≡◌, cond, ◌||◌, List, ℕ, ◌*◌, ltb, length}
-use Rattle.maptext.specs.declared.Read.{Read}
+use Rattle.std.specs.Prelude.{◌≡◌, Result, cond, ◌||◌, List, ℕ, ◌*◌, ltb, length}
+use Rattle.floor.specs.declared.Floor.{Floor}
+use Rattle.floor.specs.declared.refusals.Refusal.{Refusal}
 use Rattle.maptext.specs.Reading.{Reading, refused, read, reading_of, numbers_of, read_for, cells_left}
 
 abbrev pub greatest_text : ℕ
@@ -22,6 +23,6 @@ unfoldable pub used_of : List ℕ → ℕ → Reading
 used_of text room = cond (ltb greatest_text (length text)) (refused 14 0) (within_sides (reading_of text room))
 
 -- the promise, for a room of any length and content: the answer, and what the room holds afterwards
-pub record IsUsed (text room : List ℕ) (r : Read) (room' : List ℕ) : Type 0 where
+pub record IsUsed (text room : List ℕ) (r : Result Floor Refusal) (room' : List ℕ) : Type 0 where
   pub answers : numbers_of r ≡ read_for (used_of text (length room))
   pub leaves : room' ≡ cells_left (used_of text (length room)) room

@@ -3,7 +3,8 @@
 
 ghost use Rattle.mapuse.specs.Use.{IsUsed};
 
-use maptext::{Read, judge_map, read_map};
+use floor::{Floor, Refusal};
+use maptext::{judge_map, read_map};
 
 // 01: text above 4,195 bytes is refused: a header of at most 35 bytes, and 64 rows of 65.
 pub const GREATEST_TEXT: usize = 4195;
@@ -15,21 +16,15 @@ pub const GREATEST_USED_SIDE: usize = 64;
 pub const GREATEST_USED_CELLS: usize = GREATEST_USED_SIDE * GREATEST_USED_SIDE;
 
 // The sides are looked at before the reader stores a byte: 14 comes after its refusals, and alters nothing either.
-pub fn use_map(text: &[u8], cells: &mut [u8]) -> Read
+pub fn use_map(text: &[u8], cells: &mut [u8]) -> Result<Floor, Refusal>
     ensures { IsUsed text.now cells.old result cells.new }
 {
     if GREATEST_TEXT < text.len() {
-        return Read::Refused(14, 0);
+        return Err(Refusal::TooBig);
     }
-    let judged = judge_map(text, cells.len());
-    let Read::Map(f) = judged else {
-        return judged;
-    };
-    if GREATEST_USED_SIDE < f.width {
-        return Read::Refused(14, 0);
-    }
-    if GREATEST_USED_SIDE < f.height {
-        return Read::Refused(14, 0);
+    let floor = judge_map(text, cells.len())?;
+    if GREATEST_USED_SIDE < floor.width || GREATEST_USED_SIDE < floor.height {
+        return Err(Refusal::TooBig);
     }
     read_map(text, cells)
 }
