@@ -1,7 +1,8 @@
 -- What the verdicts mean: the theorems, each from the laws in the files beside this one.
+use Rattle.std.specs.Prelude.{Option, Result}
 use mathlib.Core.Path.{◌≡◌, refl, sym, ◌∙◌, ap}
 use mathlib.Core.Logic.{◌↔◌, ◌≢◌}
-use mathlib.Core.List.{List, [], ◌∷◌, append-nil}
+use mathlib.Core.List.{List, [], append-nil}
 use Prim.Native.Nat.{ℕ, ◌/◌, ◌%◌, ◌≤◌, ◌<◌}
 use native.Mathlib.Omega.{arith}
 use borrow.Author.Tests.{eq-eqb}
@@ -14,49 +15,25 @@ use Rattle.paths.specs.Route.{walks, ends, cost_of, Route, Least}
 use Rattle.paths.specs.Table.{Right, due, Obeys}
 use Rattle.paths.proofs.Meaning.{rule_is_right}
 use Rattle.floor.specs.declared.Floor.{Floor}
-use Rattle.floor.specs.declared.Screen.{Screen}
-use Rattle.floor.specs.declared.Screen.TheVariants.{Passed}
+use Rattle.floor.specs.declared.refusals.Refusal.{Refusal}
+use Rattle.floor.specs.Screen.{Screen, Passed}
 use Rattle.floor.specs.Place.{cells}
 use Rattle.floor.specs.Refusal.{screen}
 use Rattle.floor.specs.Step.{graph}
 use Rattle.floor.proofs.Laws.{lawful}
-use Rattle.floor.specs.Numbers.{Numbers, refused, fault, gives}
-use Rattle.claims.specs.declared.RouteVerdict.{RouteVerdict}
-use Rattle.claims.specs.declared.RouteVerdict.TheVariants.{Fault, Holds}
-use Rattle.claims.specs.declared.TableVerdict.{TableVerdict}
-use Rattle.claims.specs.declared.TableVerdict.TheVariants.{Breaks}
+use Rattle.floor.specs.Numbers.{refused}
+use Rattle.claims.specs.declared.FaultAt.{FaultAt}
 use Rattle.claims.specs.Route as route
 use Rattle.claims.specs.Table as table
 use Rattle.claims.specs.Route.{Claim, holds, IsTrue, claim_lines, arrived, tried, route_verdict, number_of, value_of, packed}
 use Rattle.claims.specs.Table.{IsLowest, table_lines, owed, right, breaks_at, table_verdict}
 use Rattle.floor.proofs.Questions.{start_inside, start_open}
+use Rattle.claims.proofs.Verdicts.{same_route, same_table}
 use Rattle.claims.proofs.Passing.{claim_question, table_question, table_passed, table_covers}
 use Rattle.claims.proofs.Holding.{passed_holds, holds_ends, walked, stands}
 use Rattle.claims.proofs.Packing.{value_small, route_refused_lines, zero_holds}
 use Rattle.claims.proofs.Keeping.{owed_is_due, unbroken_obeys, obeys_unbroken}
 use Rattle.claims.proofs.Judging.{right_unbroken, unbroken_right, breaks_lowest, lowest_breaks, table_refused_lines}
-
--- a verdict is the only one with its numbers
-abbrev pub route_of : Numbers → RouteVerdict
-route_of (refused n p) = RouteVerdict.Refused n p
-route_of (fault n p) = Fault n p
-route_of (gives vs) = Holds (get_or vs 0 0)
-
-pub route_back : (v : RouteVerdict) → route_of (route.numbers_of v) ≡ v
-route_back (RouteVerdict.Refused n p) = refl
-route_back (Fault n p) = refl
-route_back (Holds k) = refl
-
-abbrev pub table_of : Numbers → TableVerdict
-table_of (refused n p) = TableVerdict.Refused n p
-table_of (fault n p) = TableVerdict.Right
-table_of (gives []) = TableVerdict.Right
-table_of (gives (b ∷ bs)) = Breaks b
-
-pub table_back : (v : TableVerdict) → table_of (table.numbers_of v) ≡ v
-table_back (TableVerdict.Refused n p) = refl
-table_back TableVerdict.Right = refl
-table_back (Breaks b) = refl
 
 -- A claimed route
 module _ (f : Floor) (m : List ℕ) (c : Claim) where
@@ -114,8 +91,8 @@ module _ (f : Floor) (m : List ℕ) (c : Claim) where
   )
 
   -- A second verdict that meets the promise is equal
-  pub one_route_verdict : (v w : RouteVerdict) → route.numbers_of v ≡ route_verdict f m c → route.numbers_of w ≡ route_verdict f m c → v ≡ w
-  one_route_verdict v w p q = sym (route_back v) ∙ ap route_of (p ∙ sym q) ∙ route_back w
+  pub one_route_verdict : (v w : Result (Result ℕ FaultAt) Refusal) → route.numbers_of v ≡ route_verdict f m c → route.numbers_of w ≡ route_verdict f m c → v ≡ w
+  one_route_verdict v w p q = same_route v w (p ∙ sym q)
 
 -- A claimed cost table
 module _ (f : Floor) (m : List ℕ) (s : ℕ) (t : List ℕ) where
@@ -165,5 +142,5 @@ module _ (f : Floor) (m : List ℕ) (s : ℕ) (t : List ℕ) where
         rw e at ((right_exactly.0 right).1.reached goal inside (rw e n))
 
   -- A second verdict that meets the promise is equal
-  pub one_table_verdict : (v w : TableVerdict) → table.numbers_of v ≡ table_verdict f m s t → table.numbers_of w ≡ table_verdict f m s t → v ≡ w
-  one_table_verdict v w p q = sym (table_back v) ∙ ap table_of (p ∙ sym q) ∙ table_back w
+  pub one_table_verdict : (v w : Result (Option ℕ) Refusal) → table.numbers_of v ≡ table_verdict f m s t → table.numbers_of w ≡ table_verdict f m s t → v ≡ w
+  one_table_verdict v w p q = same_table v w (p ∙ sym q)

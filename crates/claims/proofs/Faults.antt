@@ -1,4 +1,5 @@
 -- Faults: the tests of a step from an open cell are its lines in their order, so the first step that is not allowed is told by its lowest line, and the end by its own.
+use Rattle.std.specs.Prelude.{Result, Ok, Err}
 use mathlib.Core.Path.{◌≡◌, refl, sym, ◌∙◌, ap}
 use mathlib.Core.Logic.{◌↔◌, ◌⊎◌, inl, inr, ⊎_elim}
 use mathlib.Core.Bool.{Bool, true, false, cond, not, ◌&&◌, ◌||◌}
@@ -15,14 +16,13 @@ use Rattle.paths.specs.Route.{walks, ends, cost_of}
 use Rattle.paths.proofs.Bools.{dec_T, and_T}
 use Rattle.floor.specs.declared.Floor.{Floor}
 use Rattle.floor.specs.declared.Place.{Place}
+use Rattle.floor.specs.declared.Reason.{Reason}
 use Rattle.floor.specs.declared.Reason.TheVariants.{NoSuchDirection, LeavesMap, EntersBlocked, CutsCorner}
-use Rattle.floor.specs.declared.Screen.{Screen}
-use Rattle.floor.specs.declared.Screen.TheVariants.{Passed, Refused}
 use Rattle.floor.specs.declared.Step.{Step}
-use Rattle.floor.specs.declared.Step.TheVariants.{To, Barred}
+use Rattle.floor.specs.Screen.{Screen, Passed, Refused}
 use Rattle.floor.specs.Direction.{is_diagonal}
 use Rattle.floor.specs.Place.{cells, place_of, cell_at, moved, corner, on_map, is_open}
-use Rattle.floor.specs.Step.{is_direction, target, step_cost, cuts_corner, entering, step_of, allowed, graph}
+use Rattle.floor.specs.Step.{step, is_direction, target, step_cost, cuts_corner, entering, step_of, allowed, graph}
 use Rattle.floor.specs.Refusal.{Line, line, screen, HasPassed}
 use Rattle.floor.specs.LowestLine.{Has}
 use Rattle.floor.proofs.Lines.{lowest_line}
@@ -47,7 +47,7 @@ told_fault (Refused a b) k n p e = cc
 
 -- the tests of a step in the order of step_of, and its lines
 same_tests : (direction there blocked diagonal a b : Bool) (i w s : ℕ) (rest : ℕ → ℕ → Numbers)
-    → on_step (cond (not direction) (Barred NoSuchDirection) (cond (not there) (Barred LeavesMap) (cond (not (there && not blocked)) (Barred EntersBlocked) (cond (diagonal && not (a && b)) (Barred CutsCorner) (To w s))))) i rest
+    → on_step (cond (not direction) (Err NoSuchDirection) (cond (not there) (Err LeavesMap) (cond (not (there && not blocked)) (Err EntersBlocked) (cond (diagonal && not (a && b)) (Err CutsCorner) (Ok (step w s)))))) i rest
     ≡ told (screen (line 41 (not direction) i ∷ line 42 (not there) i ∷ line 43 (there && blocked) i ∷ line 44 (diagonal && (not a || not b)) i ∷ [])) (rest w s)
 same_tests false there blocked diagonal a b i w s rest = refl
 same_tests true false blocked diagonal a b i w s rest = refl
@@ -123,9 +123,9 @@ module _ (f : Floor) (m : List ℕ) (v d : ℕ) where
       without Passed h = refl
       without (Refused n q) h = let z : ◌≡◌ {A = ℕ} 0 1 = cc in absurd (omega arith)
 
-      leads_on : (x : Step) → step_of f m v d ≡ x → on_step x i (λ w s. holds 0) ≡ holds 0 → T (allowed f m v d)
-      leads_on (To w s) q h = (leads f m v d q).steps
-      leads_on (Barred r) q h = let z : ◌≡◌ {A = ℕ} 0 1 = cc in absurd (omega arith)
+      leads_on : (x : Result Step Reason) → step_of f m v d ≡ x → on_step x i (λ w s. holds 0) ≡ holds 0 → T (allowed f m v d)
+      leads_on (Ok s) q h = (leads f m v d q).steps
+      leads_on (Err r) q h = let z : ◌≡◌ {A = ℕ} 0 1 = cc in absurd (omega arith)
 
 -- every line of a step has its place
 step_place : (f : Floor) (m : List ℕ) (v d i n p : ℕ) → Has (line n true p) (step_faults f m v d i) → p ≡ i

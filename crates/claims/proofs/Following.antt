@@ -1,4 +1,5 @@
 -- The steps of a claimed route, one at a time, as the loop takes them.
+use Rattle.std.specs.Prelude.{Ok, Err}
 use mathlib.Core.Path.{◌≡◌, refl, ◌∙◌, ap}
 use mathlib.Core.List.{List}
 use Prim.Native.Nat.{ℕ, suc, ◌+◌, ◌*◌, ◌≤◌, ◌<◌}
@@ -9,10 +10,9 @@ use lib.Seq.{drop-cons, drop-length}
 use Rattle.paths.specs.Graph.{MARK}
 use Rattle.floor.specs.declared.Floor.{Floor}
 use Rattle.floor.specs.declared.Reason.{Reason}
-use Rattle.floor.specs.declared.Step.TheVariants.{To, Barred}
-use Rattle.floor.specs.declared.Screen.TheVariants.{Passed}
+use Rattle.floor.specs.Screen.{Passed}
 use Rattle.floor.specs.Refusal.{screen, HasPassed}
-use Rattle.floor.specs.Step.{greatest_step, step_of}
+use Rattle.floor.specs.Step.{step, greatest_step, step_of}
 use Rattle.floor.proofs.Passing.{facts, few_cells}
 use Rattle.floor.proofs.Laws.{step_between}
 use Rattle.floor.specs.Numbers.{fault}
@@ -33,21 +33,21 @@ module _ {f : Floor} {m : List ℕ} {c : Claim} {v k i : ℕ} (b : Behind f m c 
       → tried f m c c.start 0 0 c.route ≡ on_step (step_of f m v (get_or c.route i 0)) i (λ w s. tried f m c w (suc i) (k + s) (drop (suc i) c.route))
   next h = b.rest ∙ rw (drop-cons c.route i 0 h)
 
-  pub one_more : {w s : ℕ} → HasPassed f m → i < length c.route → step_of f m v (get_or c.route i 0) ≡ To w s → Behind f m c w (k + s) (i + 1)
+  pub one_more : {w s : ℕ} → HasPassed f m → i < length c.route → step_of f m v (get_or c.route i 0) ≡ Ok (step w s) → Behind f m c w (k + s) (i + 1)
   one_more p h e = record {
     rest = next h ∙ rw (e, add-one);
     steps = omega arith;
     cost = omega (arith, b.cost, (step_between f m p v (get_or c.route i 0) e).1);
   }
 
-  pub barred : {r : Reason} → i < length c.route → step_of f m v (get_or c.route i 0) ≡ Barred r
+  pub barred : {r : Reason} → i < length c.route → step_of f m v (get_or c.route i 0) ≡ Err r
       → tried f m c c.start 0 0 c.route ≡ fault (fault_of r) i
   barred h e = next h ∙ rw e
 
-  pub all_behind : length c.route ≤ i → tried f m c c.start 0 0 c.route ≡ arrived c v i k
+  pub all_behind : length c.route ≤ i → tried f m c c.start 0 0 c.route ≡ arrived c v (length c.route) k
   all_behind h =
       let e : i ≡ length c.route = omega (arith, b.steps) in
-      b.rest ∙ ap (tried f m c v i k) (ap (λ (n : ℕ). drop n c.route) e ∙ drop-length c.route)
+      b.rest ∙ ap (tried f m c v i k) (ap (λ (n : ℕ). drop n c.route) e ∙ drop-length c.route) ∙ ap (λ (n : ℕ). arrived c v n k) e
 
   -- a route has fewer steps than there are cells, so that no sum of their costs reaches MARK
   pub no_wrap : screen (claim_lines f m c) ≡ Passed → k < MARK

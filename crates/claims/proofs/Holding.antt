@@ -1,4 +1,5 @@
 -- The steps of a claimed route, tried in order, decide whether it holds and which fault comes first: by induction on the steps.
+use Rattle.std.specs.Prelude.{Result, Ok, Err}
 use mathlib.Core.Path.{◌≡◌, refl, ◌∙◌}
 use mathlib.Core.Bool.{not}
 use mathlib.Core.List.{List, [], ◌∷◌, ◌++◌}
@@ -10,10 +11,9 @@ use lib.ListN.{length, get_or}
 use Rattle.paths.specs.Route.{walks, ends, cost_of, Route}
 use Rattle.paths.proofs.Bools.{T_and, and_T, T_not-not, by_cond}
 use Rattle.floor.specs.declared.Floor.{Floor}
-use Rattle.floor.specs.declared.Screen.{Screen}
-use Rattle.floor.specs.declared.Screen.TheVariants.{Passed}
+use Rattle.floor.specs.declared.Reason.{Reason}
 use Rattle.floor.specs.declared.Step.{Step}
-use Rattle.floor.specs.declared.Step.TheVariants.{To, Barred}
+use Rattle.floor.specs.Screen.{Screen, Passed}
 use Rattle.floor.specs.Step.{target, step_cost, step_of, allowed, graph}
 use Rattle.floor.specs.Place.{cells}
 use Rattle.floor.proofs.Laws.{reaches_map, reaches_open}
@@ -44,12 +44,12 @@ module _ (f : Floor) (m : List ℕ) (c : Claim) where
       (record { route = record { allowed = tt; arrives = r }; costs = omega arith }, cc)))
   holds_ends (d ∷ ds) v i k n = go (step_of f m v d) refl (λ w s. holds_ends ds w (suc i) (k + s) n)
     where
-      go : (x : Step) → step_of f m v d ≡ x → ((w s : ℕ) → tried f m c w (suc i) (k + s) ds ≡ holds n → Ends f m c w (k + s) ds × (n ≡ c.cost))
+      go : (x : Result Step Reason) → step_of f m v d ≡ x → ((w s : ℕ) → tried f m c w (suc i) (k + s) ds ≡ holds n → Ends f m c w (k + s) ds × (n ≡ c.cost))
           → on_step x i (λ w s. tried f m c w (suc i) (k + s) ds) ≡ holds n → Ends f m c v k (d ∷ ds) × (n ≡ c.cost)
-      go (Barred r) q ih e = let z : ◌≡◌ {A = ℕ} 0 1 = cc in absurd (omega arith)
-      go (To w s) q ih e =
+      go (Err r) q ih e = let z : ◌≡◌ {A = ℕ} 0 1 = cc in absurd (omega arith)
+      go (Ok s) q ih e =
           let l = leads f m v d q in
-          let x = rw (l.to, l.costs) at (ih w s e) in (
+          let x = rw (l.to, l.costs) at (ih s.cell s.cost e) in (
             record {
               route = record { allowed = and_T (allowed f m v d) _ l.steps x.0.route.allowed; arrives = x.0.route.arrives };
               costs = omega (arith, x.0.costs);

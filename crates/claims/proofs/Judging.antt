@@ -1,5 +1,6 @@
 -- The verdict of a claimed table, by the lowest cell that breaks the rule.
 use mathlib.Core.Path.{◌≡◌, refl, subst}
+use mathlib.Core.Logic.{◌≢◌}
 use mathlib.Core.List.{List}
 use Prim.Native.Nat.{ℕ, ◌≤◌, ◌<◌}
 use native.Mathlib.Omega.{arith}
@@ -7,11 +8,11 @@ use native.Mathlib.Decide.{ℕ_discrete}
 use borrow.Author.Tests.{lt-ltb, le-ltb}
 use lib.Dec.{ltb, ltb→lt, nltb→le}
 use lib.ListN.{get_or}
+use Rattle.paths.specs.Below.{lowest}
 use Rattle.paths.proofs.Bools.{not_eqb_ne, ne_not_eqb, by_cond}
 use Rattle.paths.proofs.Below.{Lowest, lowest_is, lowest_none, lowest_found}
 use Rattle.floor.specs.declared.Floor.{Floor}
-use Rattle.floor.specs.declared.Screen.{Screen}
-use Rattle.floor.specs.declared.Screen.TheVariants.{Passed}
+use Rattle.floor.specs.Screen.{Screen, Passed}
 use Rattle.floor.specs.Place.{cells}
 use Rattle.floor.specs.Refusal.{screen}
 use Rattle.floor.specs.Numbers.{Numbers, refused, after_screen}
@@ -80,6 +81,11 @@ module _ (f : Floor) (m : List ℕ) (s : ℕ) (t : List ℕ) where
   unfolding breaking breaks
   found b x =
       lowest_found (breaks f m s t) b (cells f) (lowest_none (breaks f m s t) b (λ v h k. not_eqb_ne _ _ k (x.lowest v h))) (ne_not_eqb _ _ x.breaks) x.inside
+
+  -- no cell before b breaks the rule, and b does
+  pub first_judged : (b : ℕ) → lowest (breaks f m s t) b ≡ b → b < cells f → get_or t b 0 ≢ owed f m s t b → breaks_at b ≡ judged f (breaking f m s t)
+  unfolding breaking breaks
+  first_judged b e h n = rw (lowest_found (breaks f m s t) b (cells f) e (ne_not_eqb _ _ n) h, lt-ltb b (cells f) h)
 
   pub lowest_breaks : (b : ℕ) → tested ≡ Passed → IsLowest f m s t b → table_verdict f m s t ≡ breaks_at b
   unfolding table_verdict

@@ -1,9 +1,9 @@
 -- The rule of the table check is the rule of the theory: no step comes into a blocked cell, and no step leaves a cell past the first width × height entries.
+use Rattle.std.specs.Prelude.{Option, None}
 use mathlib.Core.Path.{◌≡◌, refl, sym, ◌∙◌, ap}
 use mathlib.Core.Logic.{◌≢◌}
 use mathlib.Core.Bool.{not, ◌&&◌, not-not}
 use mathlib.Core.List.{List}
-use mathlib.Core.Option.{Option, none}
 use Prim.Native.Nat.{ℕ, zero, suc, ◌≤◌, ◌<◌}
 use native.Mathlib.Omega.{arith}
 use borrow.Author.Tests.{ne_eqb}
@@ -26,23 +26,23 @@ module _ (f : Floor) (m t : List ℕ) (v : ℕ) where
   -- no step comes into v
   no_offer : (d : ℕ) →
       let u = target f v (opposite d) in
-      (T (allowed f m u d) → target f u d ≡ v → ⊥) → offer (graph f m) t v d ≡ none
+      (T (allowed f m u d) → target f u d ≡ v → ⊥) → offer (graph f m) t v d ≡ None
   unfolding offer
   no_offer d n =
       let u = target f v (opposite d) in
-      by_cond (λ (x : Option ℕ). x ≡ none) (allowed f m u d && eqb (target f u d) v && not (eqb (get_or t u 0) MARK)) _ _
+      by_cond (λ (x : Option ℕ). x ≡ None) (allowed f m u d && eqb (target f u d) v && not (eqb (get_or t u 0) MARK)) _ _
       (λ k.
       let a = T_and (allowed f m u d) (eqb (target f u d) v) (T_and (allowed f m u d && eqb (target f u d) v) _ k).0 in
       absurd (n a.0 (eqb→eq (target f u d) v a.1)))
       (λ k. refl)
 
   module _ (blocked : get_or m v 0 ≡ 0) where
-    blocked_offer : (d : ℕ) → offer (graph f m) t v d ≡ none
+    blocked_offer : (d : ℕ) → offer (graph f m) t v d ≡ None
     blocked_offer d =
         let u = target f v (opposite d) in
         no_offer d (λ a l. omega (arith, reaches_open f m u d a, ap (λ (w : ℕ). get_or m w 0) l))
 
-    blocked_smallest : (n : ℕ) → smallest (graph f m) t v n ≡ none
+    blocked_smallest : (n : ℕ) → smallest (graph f m) t v n ≡ None
     blocked_smallest zero = refl
     blocked_smallest (suc n) = rw (blocked_smallest n, blocked_offer n)
 

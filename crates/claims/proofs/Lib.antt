@@ -4,6 +4,7 @@ pub mod Packing
 pub mod Keeping
 pub mod Judging
 pub mod Holding
+pub mod Verdicts
 pub mod Claims
 pub mod Faults
 pub mod Collecting

@@ -1,4 +1,5 @@
 -- The collector's two halves: every place and cost fits the low one, as a place is a cell's or a step's number, and only "holds" has the number 0.
+use Rattle.std.specs.Prelude.{Result, Ok, Err}
 use mathlib.Core.Path.{◌≡◌, refl, ap, subst}
 use mathlib.Core.Bool.{Bool, true, false, cond, not, ◌&&◌}
 use mathlib.Core.List.{List, [], ◌∷◌}
@@ -14,9 +15,7 @@ use Rattle.floor.specs.declared.Floor.{Floor}
 use Rattle.floor.specs.declared.Reason.{Reason}
 use Rattle.floor.specs.declared.Reason.TheVariants.{NoSuchDirection, LeftOffMap, LeftBlocked, LeavesMap, EntersBlocked, CutsCorner}
 use Rattle.floor.specs.declared.Step.{Step}
-use Rattle.floor.specs.declared.Step.TheVariants.{To, Barred}
-use Rattle.floor.specs.declared.Screen.{Screen}
-use Rattle.floor.specs.declared.Screen.TheVariants.{Passed, Refused}
+use Rattle.floor.specs.Screen.{Screen, Passed, Refused}
 use Rattle.floor.specs.Place.{has_sides, cells}
 use Rattle.floor.specs.Refusal.{Line, line, screen, first_above}
 use Rattle.floor.specs.Step.{step_of}
@@ -98,10 +97,10 @@ module _ (f : Floor) (m : List ℕ) (c : Claim) where
       (λ u. omega (arith, eqb→eq k c.cost (T_not-not (eqb k c.cost) u))))
   tried_small (d ∷ ds) v i k h l = go (step_of f m v d) (λ w s. tried_small ds w (suc i) (k + s) h (omega arith))
     where
-      go : (x : Step) → ((w s : ℕ) → value_of (tried f m c w (suc i) (k + s) ds) ≤ MARK)
+      go : (x : Result Step Reason) → ((w s : ℕ) → value_of (tried f m c w (suc i) (k + s) ds) ≤ MARK)
           → value_of (on_step x i (λ w s. tried f m c w (suc i) (k + s) ds)) ≤ MARK
-      go (To w s) ih = ih w s
-      go (Barred r) ih = omega arith
+      go (Ok s) ih = ih s.cell s.cost
+      go (Err r) ih = omega arith
 
   pub value_small : c.cost ≤ MARK → value_of (route_verdict f m c) ≤ MARK
   unfolding route_verdict
@@ -119,9 +118,9 @@ module _ (f : Floor) (m : List ℕ) (c : Claim) where
       (λ h. by_cond Told (not (eqb k c.cost)) _ _ (λ l. omega arith) (λ l. (k, refl)))
   told (d ∷ ds) v i k = go (step_of f m v d) (λ w s. told ds w (suc i) (k + s))
     where
-      go : (x : Step) → ((w s : ℕ) → Told (tried f m c w (suc i) (k + s) ds)) → Told (on_step x i (λ w s. tried f m c w (suc i) (k + s) ds))
-      go (To w s) ih = ih w s
-      go (Barred r) ih = fault_positive r
+      go : (x : Result Step Reason) → ((w s : ℕ) → Told (tried f m c w (suc i) (k + s) ds)) → Told (on_step x i (λ w s. tried f m c w (suc i) (k + s) ds))
+      go (Ok s) ih = ih s.cell s.cost
+      go (Err r) ih = fault_positive r
 
   pub route_refused_lines : (n p : ℕ) → route_verdict f m c ≡ refused n p → screen (claim_lines f m c) ≡ Screen.Refused n p
   unfolding route_verdict

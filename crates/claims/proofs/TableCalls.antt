@@ -12,8 +12,7 @@ use lib.ListN.{take}
 use Rattle.paths.specs.Table.{Right}
 use Rattle.paths.proofs.Bools.{by_cond}
 use Rattle.floor.specs.declared.Floor.{Floor}
-use Rattle.floor.specs.declared.Screen.{Screen}
-use Rattle.floor.specs.declared.Screen.TheVariants.{Passed, Refused}
+use Rattle.floor.specs.Screen.{Screen, Passed, Refused}
 use Rattle.floor.specs.Place.{cells}
 use Rattle.floor.specs.Refusal.{line, screen}
 use Rattle.floor.specs.Step.{graph}

@@ -1,18 +1,19 @@
 -- What the check of a claimed route answers.
-use Rattle.std.specs.Prelude.{◌≡◌, cond, not, List, [], ◌∷◌, ◌++◌, ℕ, suc, ◌+◌, ◌-◌, ◌*◌, eqb, ltb, length, get_or}
+use Rattle.std.specs.Prelude.{◌≡◌, Result, Ok, Err, cond, not, List, [], ◌∷◌, ◌++◌, ℕ, suc, ◌+◌, ◌-◌, ◌*◌, eqb, ltb, length, get_or}
 use Rattle.paths.specs.Route.{cost_of, Route}
 use Rattle.floor.specs.declared.Floor.{Floor}
 use Rattle.floor.specs.declared.Reason.{Reason}
 use Rattle.floor.specs.declared.Reason.TheVariants.{NoSuchDirection, LeftOffMap, LeftBlocked, LeavesMap, EntersBlocked, CutsCorner}
 use Rattle.floor.specs.declared.Step.{Step}
-use Rattle.floor.specs.declared.Step.TheVariants.{To, Barred}
-use Rattle.floor.specs.declared.Screen.TheVariants.{Passed}
+use Rattle.floor.specs.declared.refusals.Refusal.{Refusal}
+use Rattle.floor.specs.Screen.{Passed}
 use Rattle.floor.specs.Place.{cells}
 use Rattle.floor.specs.Step.{step_of, graph}
 use Rattle.floor.specs.Refusal.{Line, line, screen, question_lines}
-use Rattle.floor.specs.Numbers.{Numbers, refused, fault, gives, after_screen}
-use Rattle.claims.specs.declared.RouteVerdict.{RouteVerdict}
-use Rattle.claims.specs.declared.RouteVerdict.TheVariants.{Refused, Fault, Holds}
+use Rattle.floor.specs.Numbers.{Numbers, refused, fault, gives, refused_as, after_screen}
+use Rattle.claims.specs.declared.Fault.{Fault}
+use Rattle.claims.specs.declared.Fault.TheVariants as faults
+use Rattle.claims.specs.declared.FaultAt.{FaultAt}
 
 -- a claim: start, goal, cost and the directions
 pub record Claim : Type 0 where
@@ -42,24 +43,37 @@ fault_of LeavesMap = 42
 fault_of EntersBlocked = 43
 fault_of CutsCorner = 44
 
+-- and of the faults by name: 45: not at the goal, 46: another cost
+abbrev pub fault_number : Fault → ℕ
+fault_number faults.NoSuchDirection = 41
+fault_number faults.LeavesMap = 42
+fault_number faults.EntersBlocked = 43
+fault_number faults.CutsCorner = 44
+fault_number faults.NotAtGoal = 45
+fault_number faults.OtherCost = 46
+
+-- a fault and its place
+abbrev pub faulted : FaultAt → Numbers
+faulted f = fault (fault_number f.0) f.1
+
 -- a claim that holds gives its cost
 abbrev pub holds : ℕ → Numbers
 holds k = gives (k ∷ [])
 
 -- 01's numbers of each case
-abbrev pub numbers_of : RouteVerdict → Numbers
-numbers_of (Refused n p) = refused n p
-numbers_of (Fault n p) = fault n p
-numbers_of (Holds k) = holds k
+abbrev pub numbers_of : Result (Result ℕ FaultAt) Refusal → Numbers
+numbers_of (Ok (Ok k)) = holds k
+numbers_of (Ok (Err f)) = faulted f
+numbers_of (Err r) = refused_as r
 
 -- after the last step, on cell v, with i steps and the cost k behind: 45 not at the goal, 46 the cost differs
 unfoldable pub arrived : Claim → ℕ → ℕ → ℕ → Numbers
 arrived c v i k = cond (not (eqb v c.goal)) (fault 45 i) (cond (not (eqb k c.cost)) (fault 46 i) (holds k))
 
 -- a step that leads to a cell, at a cost, is followed by the rest; one that is barred is a fault at its place
-abbrev pub on_step : Step → ℕ → (ℕ → ℕ → Numbers) → Numbers
-on_step (To w s) i rest = rest w s
-on_step (Barred r) i rest = fault (fault_of r) i
+abbrev pub on_step : Result Step Reason → ℕ → (ℕ → ℕ → Numbers) → Numbers
+on_step (Ok s) i rest = rest s.cell s.cost
+on_step (Err r) i rest = fault (fault_of r) i
 
 -- the steps tried in order from cell v, with i steps and the cost k behind
 abbrev pub tried : Floor → List ℕ → Claim → ℕ → ℕ → ℕ → List ℕ → Numbers

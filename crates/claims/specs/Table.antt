@@ -1,15 +1,14 @@
 -- What the check of a claimed cost table answers.
-use Rattle.std.specs.Prelude.{◌≡◌, ◌≢◌, Bool, cond, not, List, [], ◌∷◌, ◌++◌, ℕ, ◌<◌, eqb, ltb, length, get_or}
+use Rattle.std.specs.Prelude.{◌≡◌, ◌≢◌, Option, Some, None, Result, Ok, Err, Bool, cond, not, List, [], ◌∷◌, ◌++◌, ℕ, ◌<◌, eqb, ltb, length, get_or}
 use Rattle.paths.specs.Below.{lowest}
 use Rattle.paths.specs.Graph.{MARK}
 use Rattle.paths.specs.Table.{due}
 use Rattle.floor.specs.declared.Floor.{Floor}
+use Rattle.floor.specs.declared.refusals.Refusal.{Refusal}
 use Rattle.floor.specs.Place.{cells}
 use Rattle.floor.specs.Step.{graph}
 use Rattle.floor.specs.Refusal.{Line, line, screen, floor_lines, outside_line, blocked_line}
-use Rattle.floor.specs.Numbers.{Numbers, refused, fault, gives, after_screen}
-use Rattle.claims.specs.declared.TableVerdict.{TableVerdict}
-use Rattle.claims.specs.declared.TableVerdict.TheVariants.{Refused, Right, Breaks}
+use Rattle.floor.specs.Numbers.{Numbers, refused, fault, gives, refused_as, after_screen}
 
 -- 9: the costs are shorter than width × height
 abbrev pub costs_line : Floor → List ℕ → Line
@@ -45,10 +44,10 @@ abbrev pub breaks_at : ℕ → Numbers
 breaks_at b = gives (b ∷ [])
 
 -- 01's numbers of each case
-abbrev pub numbers_of : TableVerdict → Numbers
-numbers_of (Refused n p) = refused n p
-numbers_of Right = right
-numbers_of (Breaks b) = breaks_at b
+abbrev pub numbers_of : Result (Option ℕ) Refusal → Numbers
+numbers_of (Ok None) = right
+numbers_of (Ok (Some b)) = breaks_at b
+numbers_of (Err r) = refused_as r
 
 abbrev pub judged : Floor → ℕ → Numbers
 judged f b = cond (ltb b (cells f)) (breaks_at b) right

@@ -5,18 +5,17 @@
 pub mod routes; // routes.rt: the check of a claimed route, and the collector's entry to it
 pub mod tables; // tables.rt: the check of a claimed cost table, and the entry to it from C
 
-// The answer about a claimed route: the refusal's or the fault's number and place, or the cost of a route that holds. `numbers_of` in specs/Route.antt.
+// Why a claimed route does not hold: 01's faults by name.
 #[derive(Clone, Copy)]
-pub enum RouteVerdict {
-    Refused(u32, usize),
-    Fault(u32, usize),
-    Holds(u32),
+pub enum Fault {
+    NoSuchDirection = 41,
+    LeavesMap = 42,
+    EntersBlocked = 43,
+    CutsCorner = 44,
+    NotAtGoal = 45,
+    OtherCost = 46,
 }
 
-// The answer about a claimed cost table: the refusal's number and place, that it is right, or the lowest cell that breaks the rule. `numbers_of` in specs/Table.antt.
+// A fault, and the place of its step, or the route's length.
 #[derive(Clone, Copy)]
-pub enum TableVerdict {
-    Refused(u32, usize),
-    Right,
-    Breaks(usize),
-}
+pub struct FaultAt(pub Fault, pub usize);

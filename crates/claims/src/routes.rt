@@ -3,73 +3,80 @@ ghost use Rattle.std.specs.Prelude.{◌≡◌, ◌≤◌};
 ghost use Rattle.paths.specs.Graph.{MARK};
 ghost use Rattle.floor.specs.Place.{floor_of};
 ghost use Rattle.floor.specs.Refusal.{screen};
-ghost use Rattle.floor.specs.declared.Screen.{Screen};
-ghost use Rattle.claims.specs.Route.{claim, claim_lines, fault_of, tried, route_verdict, numbers_of, value_of, packed};
+ghost use Rattle.floor.specs.Screen.{Screen, screened};
+ghost use Rattle.claims.specs.Route.{claim, claim_lines, fault_of, fault_number, tried, route_verdict, numbers_of, value_of, packed};
 
-use crate::RouteVerdict;
-use floor::{Floor, Reason, Screen, Step};
+use crate::{Fault, FaultAt};
+use floor::{Floor, Reason, Refusal};
 
 // Refusals 1 to 8, then 12.
-fn screen_claim(f: Floor, map: &[u8], start: u32, goal: u32, cost: u32, route: &[u8]) -> Screen
-    ensures { result ≡ screen (claim_lines f map.now (claim start goal cost route.now)) }
+fn screen_claim(
+    f: Floor,
+    map: &[u8],
+    start: u32,
+    goal: u32,
+    cost: u32,
+    route: &[u8],
+) -> Result<(), Refusal>
+    ensures { screened result ≡ screen (claim_lines f map.now (claim start goal cost route.now)) }
 {
-    let question = screens::screen_question(f, map, start as usize, goal as usize);
-    match question {
-        Screen::Refused(number, place) => Screen::Refused(number, place),
-        Screen::Passed => {
-            if map.len() <= route.len() {
-                return Screen::Refused(12, 0);
-            }
-            Screen::Passed
-        }
+    screens::screen_question(f, map, start as usize, goal as usize)?;
+    if map.len() <= route.len() {
+        return Err(Refusal::LongRoute);
     }
+    Ok(())
 }
 
 // A route stands on an open cell at every step, so that the two reasons of the cell left never come up.
-fn fault_of(reason: Reason) -> u32
-    ensures { result ≡ fault_of reason }
-{
-    match reason {
-        Reason::NoSuchDirection => 41,
-        Reason::LeftOffMap => 42,
-        Reason::LeftBlocked => 43,
-        Reason::LeavesMap => 42,
-        Reason::EntersBlocked => 43,
-        Reason::CutsCorner => 44,
+impl From<Reason> for Fault {
+    ghost from_gives = { λ reason fault. fault_number fault ≡ fault_of reason };
+
+    fn from(reason: Reason) -> Fault {
+        match reason {
+            Reason::NoSuchDirection => Fault::NoSuchDirection,
+            Reason::LeftOffMap => Fault::LeavesMap,
+            Reason::LeftBlocked => Fault::EntersBlocked,
+            Reason::LeavesMap => Fault::LeavesMap,
+            Reason::EntersBlocked => Fault::EntersBlocked,
+            Reason::CutsCorner => Fault::CutsCorner,
+        }
     }
 }
 
-// Tries the steps in order. What has been spent never wraps: a route has fewer steps than there are cells.
-fn try_steps(f: Floor, map: &[u8], start: u32, goal: u32, cost: u32, route: &[u8]) -> RouteVerdict
+// Tries the steps in order, and gives the cost of a claim that holds. What has been spent never wraps: a route has fewer steps than there are cells.
+fn try_steps(
+    f: Floor,
+    map: &[u8],
+    start: u32,
+    goal: u32,
+    cost: u32,
+    route: &[u8],
+) -> Result<u32, FaultAt>
     requires { screen (claim_lines f map.now (claim start goal cost route.now)) ≡ Screen.Passed }
-    ensures { numbers_of result ≡ tried f map.now (claim start goal cost route.now) start 0 0 route.now }
+    ensures { numbers_of (Ok result) ≡ tried f map.now (claim start goal cost route.now) start 0 0 route.now }
 {
     let mut cell = start as usize;
     let mut spent: u32 = 0;
-    let mut i = 0;
-    while i < route.len() {
-        let step = floor::steps::step_test(f, map, cell, route[i] as usize);
-        match step {
-            Step::Barred(reason) => {
-                return RouteVerdict::Fault(fault_of(reason), i);
+    for (place, direction) in route.iter().enumerate() {
+        match floor::steps::step_test(f, map, cell, *direction as usize) {
+            Ok(step) => {
+                cell = step.cell;
+                spent += step.cost;
             }
-            Step::To(to, paid) => {
-                cell = to;
-                spent += paid;
-                i += 1;
-            }
+            Err(reason) => return Err(FaultAt(Fault::from(reason), place)),
         }
     }
     if cell != goal as usize {
-        return RouteVerdict::Fault(45, i);
+        return Err(FaultAt(Fault::NotAtGoal, route.len()));
     }
     if spent != cost {
-        return RouteVerdict::Fault(46, i);
+        return Err(FaultAt(Fault::OtherCost, route.len()));
     }
-    RouteVerdict::Holds(spent)
+    Ok(spent)
 }
 
-// Refused; or the first fault, in the order of the steps; or that the claim holds. It need not be a least-cost route.
+// Refused; or the first fault, in the order of the steps; or the cost of a claim that holds. It need not be a least-cost route.
+#[tactic(auto, unfolding(crate::specs::Route::route_verdict))]
 pub fn check_route(
     f: Floor,
     map: &[u8],
@@ -77,29 +84,26 @@ pub fn check_route(
     goal: u32,
     cost: u32,
     route: &[u8],
-) -> RouteVerdict
+) -> Result<Result<u32, FaultAt>, Refusal>
     ensures { numbers_of result ≡ route_verdict f map.now (claim start goal cost route.now) }
 {
-    let screen = screen_claim(f, map, start, goal, cost, route);
-    match screen {
-        Screen::Refused(number, place) => RouteVerdict::Refused(number, place),
-        Screen::Passed => try_steps(f, map, start, goal, cost, route),
-    }
+    screen_claim(f, map, start, goal, cost, route)?;
+    Ok(try_steps(f, map, start, goal, cost, route))
 }
 
 // 01: high half the refusal or fault number (0 if the claim holds), low half the place, or the cost if it holds.
-fn pack(verdict: RouteVerdict) -> u64
+fn pack(verdict: Result<Result<u32, FaultAt>, Refusal>) -> u64
     requires { value_of (numbers_of verdict) ≤ MARK }
     ensures { result ≡ packed (numbers_of verdict) }
 {
     match verdict {
-        RouteVerdict::Refused(number, place) => (number as u64) * 4294967296 + (place as u64),
-        RouteVerdict::Fault(number, place) => (number as u64) * 4294967296 + (place as u64),
-        RouteVerdict::Holds(cost) => cost as u64,
+        Ok(Ok(cost)) => cost as u64,
+        Ok(Err(FaultAt(fault, place))) => fault as u64 * 4294967296 + place as u64,
+        Err(refusal) => refusal.number() as u64 * 4294967296 + refusal.place() as u64,
     }
 }
 
-// The collector's call. Every number comes in at 32 bits and is widened, so that none is narrowed before it is judged.
+// The collector's call.
 #[unsafe(no_mangle)]
 pub extern "C" fn fradnumber_check_route(
     width: u32,
@@ -113,10 +117,6 @@ pub extern "C" fn fradnumber_check_route(
 ) -> u64
     ensures { result ≡ packed (route_verdict (floor_of width height ways) map.now (claim start goal cost route.now)) }
 {
-    let f = Floor {
-        width: width as usize,
-        height: height as usize,
-        ways: ways as usize,
-    };
+    let f = Floor::of(width, height, ways);
     pack(check_route(f, map, start, goal, cost, route))
 }
