@@ -6,14 +6,14 @@ use native.Mathlib.Omega.{arith}
 use lib.ListN.{length, drop, replicate}
 use Rattle.paths.proofs.Bools.{not_eqb_ne}
 use Rattle.floor.specs.declared.Floor.{Floor}
-use Rattle.floor.specs.declared.Screen.TheVariants.{Passed, Refused}
+use Rattle.floor.specs.Screen.{Passed, Refused}
 use Rattle.floor.specs.Place.{cells}
 use Rattle.floor.specs.Refusal.{screen, question_lines}
 use Rattle.floor.proofs.Questions.{passed_both}
 use Rattle.floor.proofs.Screens.{none_given}
-use Rattle.answering.specs.declared.Answer.{Answer}
+use Rattle.answering.specs.Answer.{Answer}
 use Rattle.answering.specs.Rooms.{Rooms, rooms, lent_lines}
-use Rattle.answering.specs.Question.{Question}
+use Rattle.answering.specs.declared.Question.{Question}
 use Rattle.search.specs.Search.{limit_line, search_lines, Searched, refused, passed}
 use Rattle.answering.proofs.Lending.{asked_well, enough_costs, enough_work, enough_route}
 use Rattle.lastband.specs.Last.{Finished}

@@ -3,12 +3,12 @@ use Rattle.std.specs.Prelude.{◌≡◌, List, [], ◌∷◌, ◌++◌, ℕ, eqb
 use Rattle.paths.specs.Table.{Right}
 use Rattle.settling.specs.Answer.{Row, costs_left}
 use Rattle.floor.specs.declared.Floor.{Floor}
-use Rattle.floor.specs.declared.Screen.TheVariants.{Passed, Refused}
+use Rattle.floor.specs.Screen.{Passed, Refused}
 use Rattle.floor.specs.Step.{graph}
 use Rattle.floor.specs.Refusal.{Line, line, screen}
-use Rattle.answering.specs.declared.Answer.{Answer}
+use Rattle.answering.specs.Answer.{Answer}
 use Rattle.answering.specs.declared.AnswerNumbers.{AnswerNumbers}
-use Rattle.answering.specs.Question.{Question}
+use Rattle.answering.specs.declared.Question.{Question}
 use Rattle.answering.specs.Answers.{row_of, answer_by, numbers_of}
 use Rattle.answering.specs.Rooms.{Rooms, length_lines, leaving}
 
