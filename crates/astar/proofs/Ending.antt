@@ -25,8 +25,7 @@ use Rattle.floor.specs.Length.{route_length}
 use Rattle.floor.specs.Estimate.{estimate}
 use Rattle.floor.proofs.Laws.{lawful}
 use Rattle.floor.proofs.Estimating.{estimate_consistent, estimate_home}
-use Rattle.answering.specs.declared.Answer.{Answer}
-use Rattle.answering.specs.declared.Answer.TheVariants.{Found, None}
+use Rattle.answering.specs.Answer.{Answer, Found, None}
 use Rattle.answering.specs.Answers.{answer_by}
 use Rattle.walkback.specs.Walks.{CanWalk}
 use Rattle.spread.specs.declared.Aim.{Aim}

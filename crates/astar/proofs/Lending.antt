@@ -1,20 +1,24 @@
--- The promise from the rooms' parts: each part is followed by the rest of its room.
-use mathlib.Core.Path.{◌≡◌}
-use mathlib.Core.List.{List, ◌++◌}
-use Prim.Native.Nat.{ℕ, ◌*◌}
-use lib.ListN.{drop, replicate}
+-- The parts of the rooms that are lent, where the question and the rooms have passed: each length from the refusal that judges it.
+use mathlib.Core.Path.{◌≡◌, ◌∙◌}
+use mathlib.Core.List.{List}
+use Prim.Native.Nat.{ℕ, ◌*◌, ◌≤◌}
+use native.Mathlib.Omega.{arith}
+use lib.ListN.{length, take}
+use lib.Seq.{length-take-le}
 use Rattle.floor.specs.declared.Floor.{Floor}
-use Rattle.floor.specs.declared.Screen.TheVariants.{Passed}
+use Rattle.floor.specs.Screen.{Passed}
 use Rattle.floor.specs.Place.{cells}
 use Rattle.floor.specs.Refusal.{screen}
-use Rattle.answering.specs.declared.Answer.{Answer}
-use Rattle.answering.specs.Rooms.{Rooms, rooms, lent_lines}
-use Rattle.astar.specs.Astar.{Aimed, passed}
-use Rattle.astar.specs.Ends.{Finished}
+use Rattle.floor.proofs.Questions.{question_covers}
+use Rattle.answering.specs.Rooms.{Rooms, lent_lines}
+use Rattle.answering.proofs.Lending.{asked_well, enough_costs, enough_work, enough_route}
 
--- n is the number of cells, as the code has it
-pub aimed_passed : (f : Floor) (m : List ℕ) (start goal : ℕ) (r : Rooms) → screen (lent_lines f m start goal r) ≡ Passed
-    → (n : ℕ) → n ≡ cells f → {a : Answer} {costs' work' route' : List ℕ} → Finished f m start goal r.route a costs' route' → work' ≡ replicate (2 * cells f) 0
-    → Aimed f m start goal r a (rooms (costs' ++ drop n r.costs) (work' ++ drop (2 * n) r.work) route')
-aimed_passed f m start goal r e n c x z =
-    passed e (record { table = x.table; right = x.right; answer = x.answer; leaves = rw (c, x.costs_left, z, x.route_left) })
+-- the parts that are lent are as long as the floor has cells, and the work room's twice as long
+pub lent_lengths : (f : Floor) (m : List ℕ) (start goal : ℕ) (r : Rooms) → screen (lent_lines f m start goal r) ≡ Passed
+    → (length (take (length m) r.costs) ≡ cells f) × (length (take (2 * length m) r.work) ≡ 2 * cells f) × (cells f ≤ length r.route)
+lent_lengths f m start goal r e =
+    let covers = question_covers f m start goal (asked_well f m start goal r e) in (
+      length-take-le (length m) r.costs (omega (arith, covers, enough_costs f m start goal r e)) ∙ covers,
+      length-take-le (2 * length m) r.work (omega (arith, covers, enough_work f m start goal r e)) ∙ omega (arith, covers),
+      enough_route f m start goal r e,
+    )

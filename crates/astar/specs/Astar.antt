@@ -4,11 +4,11 @@ use Rattle.paths.specs.Table.{Right}
 use Rattle.settling.specs.Answer.{Row}
 use Rattle.settling.specs.Aimed.{settled_costs, aimed_of}
 use Rattle.floor.specs.declared.Floor.{Floor}
-use Rattle.floor.specs.declared.Screen.TheVariants.{Passed, Refused}
+use Rattle.floor.specs.Screen.{Passed, Refused}
 use Rattle.floor.specs.Step.{graph}
 use Rattle.floor.specs.Estimate.{estimate}
 use Rattle.floor.specs.Refusal.{screen}
-use Rattle.answering.specs.declared.Answer.{Answer}
+use Rattle.answering.specs.Answer.{Answer}
 use Rattle.answering.specs.declared.AnswerNumbers.{AnswerNumbers}
 use Rattle.answering.specs.Answers.{answer_by, numbers_of}
 use Rattle.answering.specs.Rooms.{Rooms, lent_lines, leaving}

@@ -9,7 +9,7 @@ use Rattle.floor.specs.Place.{cells, place_of}
 use Rattle.floor.specs.Step.{graph}
 use Rattle.floor.specs.Estimate.{estimate}
 use Rattle.floor.specs.Refusal.{HasPassed}
-use Rattle.answering.specs.declared.Answer.{Answer}
+use Rattle.answering.specs.Answer.{Answer}
 use Rattle.answering.specs.Answers.{answer_by}
 use Rattle.spread.specs.declared.Aim.{Aim}
 use Rattle.spread.specs.Listing.{CanAim}

@@ -2,16 +2,17 @@
 ghost use Rattle.std.specs.Prelude.{◌≡◌, length, replicate, ◌*◌, ◌≤◌, ◌<◌};
 ghost use Rattle.floor.specs.Place.{cells, floor_of};
 ghost use Rattle.floor.specs.Refusal.{HasPassed};
+ghost use Rattle.answering.specs.Answer.{come_to, answer_of};
 ghost use Rattle.answering.specs.Rooms.{rooms};
 ghost use Rattle.astar.specs.Astar.{Aimed, AimedCall};
 ghost use Rattle.astar.specs.Ends.{Finished};
 
 use crate::ends::finish;
 use answering::numbers::numbers_of;
-use answering::rooms::{fill, screen_lengths};
-use answering::{Answer, AnswerNumbers};
+use answering::rooms::screen_lengths;
+use answering::{AnswerNumbers, Outcome};
 use floor::steps::place_of;
-use floor::{Floor, Screen};
+use floor::{Floor, Refusal};
 use spread::Aim;
 use spread::passes::settle;
 
@@ -23,21 +24,20 @@ fn astar_rooms(
     costs: &mut [u32],
     work: &mut [u32],
     route: &mut [u8],
-) -> Answer
+) -> Outcome
     requires has_passed { HasPassed f map.now × (start < cells f) × (goal < cells f) }
     requires costs_len { (length costs.old ≡ cells f) × (length work.old ≡ 2 * cells f) × (cells f ≤ length route.old) }
-    ensures finished { Finished f map.now start goal route.old result costs.new route.new }
+    ensures finished { Finished f map.now start goal route.old (come_to result) costs.new route.new }
     ensures cleared { work.new ≡ replicate (2 * cells f) 0 }
 {
-    let place = place_of(f, goal);
     let aim = Aim {
         floor: f,
         goal,
-        place,
+        place: place_of(f, goal),
     };
     settle(aim, map, start, costs, work);
     let answer = finish(aim, map, start, costs, route);
-    fill(work, 0);
+    work.fill(0);
     answer
 }
 
@@ -50,31 +50,25 @@ pub fn astar(
     costs: &mut [u32],
     work: &mut [u32],
     route: &mut [u8],
-) -> Answer
-    ensures { Aimed f map.now start goal (rooms costs.old work.old route.old) result (rooms costs.new work.new route.new) }
+) -> Result<Outcome, Refusal>
+    ensures { Aimed f map.now start goal (rooms costs.old work.old route.old) (answer_of result) (rooms costs.new work.new route.new) }
 {
     let from = start as usize;
     let to = goal as usize;
-    let screen = screen_lengths(f, map, from, to, costs.len(), work.len(), route.len());
-    match screen {
-        Screen::Refused(number, place) => Answer::Refused(number, place),
-        Screen::Passed => {
-            let cells = map.len();
-            let places = 2 * cells;
-            astar_rooms(
-                f,
-                map,
-                from,
-                to,
-                &mut costs[..cells],
-                &mut work[..places],
-                route,
-            )
-        }
-    }
+    screen_lengths(f, map, from, to, costs.len(), work.len(), route.len())?;
+    let cells = map.len();
+    Ok(astar_rooms(
+        f,
+        map,
+        from,
+        to,
+        &mut costs[..cells],
+        &mut work[..2 * cells],
+        route,
+    ))
 }
 
-// The search for callers from C. Every number comes in at 32 bits and is widened, so that none is narrowed before it is judged.
+// The search for callers from C.
 #[unsafe(no_mangle)]
 pub extern "C" fn fradnumber_astar(
     width: u32,
@@ -89,11 +83,6 @@ pub extern "C" fn fradnumber_astar(
 ) -> AnswerNumbers
     ensures { AimedCall (floor_of width height ways) map.now start goal (rooms costs.old work.old route.old) result (rooms costs.new work.new route.new) }
 {
-    let f = Floor {
-        width: width as usize,
-        height: height as usize,
-        ways: ways as usize,
-    };
-    let answer = astar(f, map, start, goal, costs, work, route);
-    numbers_of(answer)
+    let f = Floor::of(width, height, ways);
+    numbers_of(astar(f, map, start, goal, costs, work, route))
 }
