@@ -1,3 +1,3 @@
 pub mod Zeros
-pub mod Copies
+pub mod Codes
 pub mod Records

@@ -1,18 +1,12 @@
 -- The numbers of an answer in the fields of its record. What records mean is in Record.
 use Rattle.std.specs.Prelude.{◌≤◌, ◌<◌}
 use Rattle.paths.specs.Graph.{MARK}
-use Rattle.answering.specs.declared.Answer.{Answer}
 use Rattle.answering.specs.declared.AnswerNumbers.{AnswerNumbers}
-use Rattle.answering.specs.Answers.{numbers_of}
 
 -- kind and refusal number have room in their bytes
 pub record SmallCodes (n : AnswerNumbers) : Type 0 where
   pub kind : n.kind < 256
   pub refusal : n.refusal < 256
-
--- the refusal number of an answer has; its kind always does
-abbrev pub SmallRefusal : Answer → Type 0
-SmallRefusal a = (numbers_of a).refusal < 256
 
 -- every number has room in its field
 pub record InRecord (n : AnswerNumbers) : Type 0 where

@@ -1,9 +1,11 @@
 -- Question and answer records: 01, "The program", and 02, R-6.
-use Rattle.std.specs.Prelude.{Bool, true, ◌&&◌, List, [], ◌∷◌, ◌++◌, ℕ, ◌+◌, ◌*◌, ◌/◌, ◌%◌, eqb, get_or, drop, replicate}
-use Rattle.answering.specs.declared.Answer.{Answer}
+use Rattle.std.specs.Prelude.{Bool, List, [], ◌∷◌, ◌++◌, ℕ, ◌+◌, ◌*◌, ◌/◌, ◌%◌, eqb, get_or, drop, replicate}
+use Rattle.std.specs.List.{list_all}
+use Rattle.answering.specs.Answer.{Answer}
 use Rattle.answering.specs.declared.AnswerNumbers.{AnswerNumbers}
 use Rattle.answering.specs.Answers.{numbers_of}
-use Rattle.answering.specs.Question.{Question, question}
+use Rattle.answering.specs.declared.Question.{Question}
+use Rattle.answering.specs.Question.{question}
 
 abbrev pub record_size : ℕ
 record_size = 32
@@ -23,8 +25,7 @@ abbrev pub ways_in : List ℕ → ℕ
 ways_in bytes = get_or bytes 12 0
 
 abbrev pub all_zero : List ℕ → Bool
-all_zero [] = true
-all_zero (b ∷ bs) = eqb b 0 && all_zero bs
+all_zero bytes = list_all (λ b. eqb b 0) bytes
 
 abbrev pub ends_in_zeros : List ℕ → Bool
 ends_in_zeros bytes = all_zero (drop 13 bytes)

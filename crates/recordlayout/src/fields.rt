@@ -5,34 +5,17 @@ ghost use Rattle.recordlayout.specs.Record.{record_size, number_at, all_zero, an
 use crate::RECORD_SIZE;
 use answering::AnswerNumbers;
 
-pub fn widened(byte: u8) -> u32
-    ensures { (result ≡ byte) × (result < 256) }
-{
-    byte as u32
-}
-
 pub fn number_at(bytes: &[u8], at: usize) -> u32
     requires { at + 4 ≤ length bytes.now }
     ensures { result ≡ number_at bytes.now at }
 {
-    let a = widened(bytes[at]);
-    let b = widened(bytes[at + 1]);
-    let c = widened(bytes[at + 2]);
-    let d = widened(bytes[at + 3]);
-    a + 256 * b + 65536 * c + 16777216 * d
+    u32::from_le_bytes([bytes[at], bytes[at + 1], bytes[at + 2], bytes[at + 3]])
 }
 
 pub fn all_zero(bytes: &[u8]) -> bool
     ensures { result ≡ all_zero bytes.now }
 {
-    let mut i = 0;
-    while i < bytes.len() {
-        if bytes[i] != 0 {
-            return false;
-        }
-        i += 1;
-    }
-    true
+    bytes.iter().all(|byte| *byte == 0)
 }
 
 // The record at an offset of a file.
@@ -47,15 +30,14 @@ pub fn record_at(bytes: &[u8], at: usize) -> [u8; RECORD_SIZE]
 }
 
 // The numbers of an answer record. A place stands in no record.
+#[tactic(auto, unfolding(crate::specs::Record::answer_in))]
 pub fn numbers_in(answer: &[u8]) -> AnswerNumbers
     requires { record_size ≤ length answer.now }
     ensures { result ≡ answer_in answer.now }
 {
-    let kind = widened(answer[0]);
-    let refusal = widened(answer[1]);
     AnswerNumbers {
-        kind: kind as u64,
-        refusal: refusal as u64,
+        kind: answer[0] as u64,
+        refusal: answer[1] as u64,
         place: 0,
         settled: number_at(answer, 4) as u64,
         number: number_at(answer, 8) as u64,
