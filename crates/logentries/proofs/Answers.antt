@@ -1,44 +1,25 @@
--- Which answers can be logged, test by test, in the order in which the code tries them; and R-6's words about them, from what an answer that can be logged has.
+-- Which answers of kind 1 to 3 can be logged, test by test, in the order in which the code tries them; and R-6's words about all of them, from what an answer
+-- that can be logged has.
 use mathlib.Core.Path.{◌≡◌, refl, sym, ◌∙◌, subst}
 use mathlib.Core.Logic.{◌≢◌, ◌⊎◌, inl, inr, ⊎_elim}
 use mathlib.Core.Bool.{Bool, true, false, cond, not, ◌&&◌}
 use mathlib.Core.List.{List}
-use Prim.Native.Nat.{ℕ, ◌+◌, ◌≤◌, ◌<◌}
+use Prim.Native.Nat.{ℕ, ◌+◌, ◌≤◌}
 use native.Mathlib.Omega.{arith}
-use borrow.Author.Tests.{eqb-true, ne_eqb, lt-ltb, le-leb, lt-leb}
+use borrow.Author.Tests.{eqb-true, ne_eqb}
 use lib.Dec.{T, eqb, leb, leb→le, eqb→eq}
 use lib.ListN.{get_or, take, drop}
 use lib.Seq.{get_or-drop}
 use Rattle.paths.specs.Graph.{MARK}
 use Rattle.paths.proofs.Bools.{not_T_false, T_and, and_T, eq_T}
 use Rattle.floor.specs.declared.RouteLength.{RouteLength}
-use Rattle.answering.specs.declared.Answer.TheVariants.{Found}
+use Rattle.answering.specs.Answer.{Found}
 use Rattle.answering.specs.declared.AnswerNumbers.{AnswerNumbers}
 use Rattle.recordlayout.specs.Record.{all_zero, ends_in_eight_zeros, record_of, answer_in}
 use Rattle.recordlayout.proofs.Zeros.{zero_at}
-use Rattle.logentries.specs.Entry.{greatest_refusal, greatest_length, refusal_fits, no_route, kind_fits, can_be_logged, steps_in}
+use Rattle.logentries.specs.Entry.{greatest_length, refusal_fits, no_route, kind_fits, can_be_logged, steps_in}
 
 module _ (a : List ℕ) {n : AnswerNumbers} (read : n ≡ answer_in a) where
-  module _ (refused : n.kind ≡ 0) where
-    refused_is : (answer_in a).kind ≡ 0
-    refused_is = cc
-
-    pub no_refusal : n.refusal ≡ 0 → can_be_logged a ≡ false
-    unfolding can_be_logged
-    no_refusal e = let none : (answer_in a).refusal ≡ 0 = cc in rw (refused_is, none)
-
-    pub greater_refusal : greatest_refusal < n.refusal → can_be_logged a ≡ false
-    unfolding can_be_logged
-    greater_refusal h =
-        let great = rw read at h in
-        rw (refused_is, lt-ltb 0 (answer_in a).refusal (omega arith), lt-leb (answer_in a).refusal greatest_refusal great)
-
-    pub zeros_after : n.refusal ≢ 0 → n.refusal ≤ greatest_refusal → can_be_logged a ≡ all_zero (drop 2 a)
-    unfolding can_be_logged
-    zeros_after some h =
-        let least : 0 < n.refusal = omega arith in
-        rw (refused_is, lt-ltb 0 (answer_in a).refusal (rw read at least), le-leb (answer_in a).refusal greatest_refusal (rw read at h))
-
   module _ (answered : n.kind ≢ 0) where
     other_kind : (answer_in a).kind ≢ 0
     other_kind = rw read at answered

@@ -1,31 +1,15 @@
--- Bytes that are looked at one after the other for lying between two, and what the test says of each of them.
+-- Bytes that are tested for lying between two: what the test says of each of them.
 use mathlib.Core.Path.{◌≡◌, refl}
 use mathlib.Core.Logic.{◌⊎◌, inl, inr}
 use mathlib.Core.Bool.{Bool, true, false, ◌&&◌}
 use mathlib.Core.List.{List, [], ◌∷◌}
-use Prim.Native.Nat.{ℕ, zero, suc, ◌+◌, ◌≤◌, ◌<◌}
-use native.Mathlib.Numerals.{add-one}
+use Prim.Native.Nat.{ℕ, zero, suc, ◌≤◌, ◌<◌}
 use native.Mathlib.Omega.{arith}
-use borrow.Author.Tests.{le-leb, lt-leb, leb-false}
+use borrow.Author.Tests.{leb-false}
 use lib.Dec.{leb, leb→le}
-use lib.ListN.{length, get_or, drop, drop_of_length-le}
-use lib.Seq.{drop-cons}
+use lib.ListN.{length, get_or}
 use Rattle.paths.proofs.Bools.{T_true, true_T, T_and}
 use Rattle.logentries.specs.Entry.{all_within}
-
-module _ (least greatest : ℕ) (bytes : List ℕ) (i : ℕ) where
-  pub within_here : i < length bytes → least ≤ get_or bytes i 0 → get_or bytes i 0 ≤ greatest
-      → all_within least greatest (drop i bytes) ≡ all_within least greatest (drop (i + 1) bytes)
-  within_here h low high = rw (drop-cons bytes i 0 h, le-leb least (get_or bytes i 0) low, le-leb (get_or bytes i 0) greatest high, add-one)
-
-  pub below_here : i < length bytes → get_or bytes i 0 < least → all_within least greatest (drop i bytes) ≡ false
-  below_here h low = rw (drop-cons bytes i 0 h, lt-leb least (get_or bytes i 0) low)
-
-  pub above_here : i < length bytes → least ≤ get_or bytes i 0 → greatest < get_or bytes i 0 → all_within least greatest (drop i bytes) ≡ false
-  above_here h low high = rw (drop-cons bytes i 0 h, le-leb least (get_or bytes i 0) low, lt-leb (get_or bytes i 0) greatest high)
-
-  pub none_left : length bytes ≤ i → all_within least greatest (drop i bytes) ≡ true
-  none_left h = rw (drop_of_length-le bytes h)
 
 -- of bytes that pass each one does
 pub within_at : (least greatest : ℕ) (bs : List ℕ) → all_within least greatest bs ≡ true → (i : ℕ) → i < length bs

@@ -1,5 +1,6 @@
 -- An entry of the route log, and its bytes: 02, R-1 and R-6.
-use Rattle.std.specs.Prelude.{◌≡◌, Bool, true, false, cond, not, ◌&&◌, List, [], ◌∷◌, ◌++◌, ℕ, ◌+◌, ◌-◌, ◌*◌, ◌/◌, T, eqb, leb, ltb, length, take, drop, replicate}
+use Rattle.std.specs.Prelude.{◌≡◌, Bool, false, cond, not, ◌&&◌, List, ◌++◌, ℕ, ◌+◌, ◌-◌, ◌*◌, ◌/◌, T, eqb, leb, ltb, length, take, drop, replicate}
+use Rattle.std.specs.List.{list_all}
 use Rattle.paths.specs.Graph.{MARK}
 use Rattle.answering.specs.declared.AnswerNumbers.{AnswerNumbers}
 use Rattle.recordlayout.specs.Record.{record_size, all_zero, ends_in_eight_zeros, answer_in}
@@ -61,8 +62,7 @@ steps_in a = (answer_in a).length
 
 -- every byte lies between two
 abbrev pub all_within : ℕ → ℕ → List ℕ → Bool
-all_within least greatest [] = true
-all_within least greatest (b ∷ bs) = (leb least b && leb b greatest) && all_within least greatest bs
+all_within least greatest bytes = list_all (λ b. leb least b && leb b greatest) bytes
 
 -- no direction is above 7
 abbrev pub all_directions : List ℕ → Bool

@@ -25,6 +25,7 @@ pub const GREATEST_DIRECTION: u8 = 7;
 pub const FILLER: u8 = 255;
 
 // The bytes of as many records as hold that many directions.
+#[tactic(auto, unfolding(crate::specs::Entry::route_size))]
 pub fn route_size(length: usize) -> usize
     requires { length ≤ greatest_length }
     ensures { result ≡ route_size length }
@@ -36,82 +37,46 @@ pub fn route_size(length: usize) -> usize
 pub fn all_within(least: u8, greatest: u8, bytes: &[u8]) -> bool
     ensures { result ≡ all_within least greatest bytes.now }
 {
-    let mut i = 0;
-    while i < bytes.len() {
-        if bytes[i] < least {
-            return false;
-        }
-        if greatest < bytes[i] {
-            return false;
-        }
-        i += 1;
-    }
-    true
+    bytes.iter().all(|byte| least <= *byte && *byte <= greatest)
 }
 
 // R-6: an answer other than found has no P and no Q, as it has no length.
 fn no_route(n: AnswerNumbers) -> bool
     ensures { result ≡ no_route n }
 {
-    if n.length == 0 {
-        if n.p == 0 {
-            return n.q == 0;
-        }
-    }
-    false
+    n.length == 0 && n.p == 0 && n.q == 0
 }
 
 // Kinds 1, 2 and 3 with the number and the length that each may have. R-6: P and Q of a found answer are not tested.
+#[tactic(auto, unfolding(crate::specs::Entry::kind_fits))]
 fn kind_fits(n: AnswerNumbers) -> bool
     ensures { result ≡ kind_fits n }
 {
-    let number = n.number;
-    let length = n.length;
-    if n.kind == 1 {
-        if number != MARK as u64 {
-            return length <= GREATEST_LENGTH;
-        }
-        return false;
+    let is_mark = n.number == MARK as u64;
+    match n.kind {
+        1 => !is_mark && n.length <= GREATEST_LENGTH,
+        2 => is_mark && no_route(n),
+        3 => !is_mark && no_route(n),
+        _ => false,
     }
-    if n.kind == 2 {
-        if number == MARK as u64 {
-            return no_route(n);
-        }
-        return false;
-    }
-    if n.kind == 3 {
-        if number == MARK as u64 {
-            return false;
-        }
-        return no_route(n);
-    }
-    false
 }
 
 // Whether an answer record can be logged.
+#[tactic(auto, unfolding(crate::specs::Entry::can_be_logged))]
 pub fn can_be_logged(answer: &[u8]) -> bool
     requires { length answer.now ≡ record_size }
     ensures { result ≡ can_be_logged answer.now }
 {
     let numbers = numbers_in(answer);
     if numbers.kind == 0 {
-        if numbers.refusal == 0 {
-            return false;
-        }
-        if GREATEST_REFUSAL < numbers.refusal {
-            return false;
-        }
-        return all_zero(&answer[2..]);
+        let refusal = numbers.refusal;
+        return 0 < refusal && refusal <= GREATEST_REFUSAL && all_zero(&answer[2..]);
     }
-    if all_zero(&answer[1..4]) {
-        if all_zero(&answer[24..]) {
-            return kind_fits(numbers);
-        }
-    }
-    false
+    all_zero(&answer[1..4]) && all_zero(&answer[24..]) && kind_fits(numbers)
 }
 
 // Puts the directions, and filler up to the end of their last record, and answers the place after them.
+#[tactic(auto, using(crate::proofs::Sizes::size_holds), unfolding(crate::specs::Entry::route_bytes))]
 pub fn put_route(directions: &[u8], room: &mut [u8], at: usize) -> usize
     requires { (length directions.now ≤ greatest_length) × (at + route_size (length directions.now) ≤ length room.old) }
     ensures { IsPut (route_bytes directions.now) room.old at result room.new }
