@@ -5,28 +5,28 @@ use mathlib.Core.List.{List, []}
 use Prim.Native.Nat.{ℕ, ◌<◌}
 use native.Mathlib.Omega.{arith}
 use lib.ListN.{length}
-use Rattle.floor.specs.declared.Screen.{Screen}
-use Rattle.floor.specs.declared.Screen.TheVariants.{Passed, Refused}
+use Rattle.std.specs.Prelude.{Option, Result}
+use Rattle.floor.specs.declared.refusals.Refusal.{Refusal}
+use Rattle.floor.specs.declared.written.WrittenNumbers.{WrittenNumbers}
+use Rattle.floor.specs.Numbers.{written_as, written_numbers}
+use Rattle.floor.specs.Screen.{Screen, Passed, Refused}
 use Rattle.routelog.specs.declared.EntryRead.{EntryRead}
 use Rattle.routelog.specs.declared.EntryNumbers.{EntryNumbers}
-use Rattle.routelog.specs.declared.EntryWritten.{EntryWritten}
-use Rattle.routelog.specs.declared.EntryWrittenNumbers.{EntryWrittenNumbers}
 use Rattle.logentries.specs.Entry.{Entry}
-use Rattle.routelog.specs.Reading.{Reading, empty, refused, entry, reading_of, numbers_of, IsRead}
-use Rattle.routelog.specs.Writing as writes
+use Rattle.routelog.specs.Reading.{Reading, empty, refused, entry, reading_of, numbers_of, question_read, answer_read, IsRead}
 use Rattle.routelog.specs.Writing.{written_for, IsWritten}
 use Rattle.routelog.specs.Refusals.{ReaderRefuses, WriterRefuses}
-use Rattle.routelog.specs.Calls.{entry_numbers, called_as, written_numbers, ReadCalled, WriteCalled}
+use Rattle.routelog.specs.Calls.{entry_numbers, called_as, ReadCalled, WriteCalled}
 use Rattle.routelog.proofs.Taking.{reading_empty}
 use Rattle.routelog.proofs.Found.{empty_is, found, found_long}
 use Rattle.routelog.proofs.Refusals.{reader_refuses}
 
-pub read_called : {rest room : List ℕ} {r : EntryRead} {n : EntryNumbers} {room' : List ℕ} → IsRead rest room r room'
-    → n ≡ entry_numbers (numbers_of r.outcome) r.question r.answer → ReadCalled rest room n room'
+pub read_called : {rest room : List ℕ} {r : Result (Option EntryRead) Refusal} {n : EntryNumbers} {room' : List ℕ} → IsRead rest room r room'
+    → n ≡ entry_numbers (numbers_of r) (question_read r) (answer_read r) → ReadCalled rest room n room'
 read_called x e = record { numbers = e ∙ rw (x.outcome, x.question, x.answer); leaves = x.leaves }
 
-pub write_called : {e : Entry} {room : List ℕ} {w : EntryWritten} {n : EntryWrittenNumbers} {room' : List ℕ} → IsWritten e room w room'
-    → n ≡ written_numbers (writes.numbers_of w) → WriteCalled e room n room'
+pub write_called : {e : Entry} {room : List ℕ} {w : Result ℕ Refusal} {n : WrittenNumbers} {room' : List ℕ} → IsWritten e room w room'
+    → n ≡ written_numbers (written_as w) → WriteCalled e room n room'
 write_called x e = record { numbers = e ∙ rw x.answers; leaves = x.leaves }
 
 -- a second result that keeps the promise of a call is equal
@@ -34,7 +34,7 @@ pub one_read_call : {rest room : List ℕ} {n k : EntryNumbers} {room₁ room₂
     → (n ≡ k) × (room₁ ≡ room₂)
 one_read_call x y = (x.numbers ∙ sym y.numbers, x.leaves ∙ sym y.leaves)
 
-pub one_write_call : {e : Entry} {room : List ℕ} {n k : EntryWrittenNumbers} {room₁ room₂ : List ℕ} → WriteCalled e room n room₁ → WriteCalled e room k room₂
+pub one_write_call : {e : Entry} {room : List ℕ} {n k : WrittenNumbers} {room₁ room₂ : List ℕ} → WriteCalled e room n room₁ → WriteCalled e room k room₂
     → (n ≡ k) × (room₁ ≡ room₂)
 one_write_call x y = (x.numbers ∙ sym y.numbers, x.leaves ∙ sym y.leaves)
 
@@ -68,19 +68,19 @@ read_call_refused y n k p is some = (λ e. go y is e.0 e.1, λ e. back (is ∙ a
     back c = (ap (λ (m : EntryNumbers). m.refusal) c, ap (λ (m : EntryNumbers). m.place) c)
 
 -- and exactly when the writer's lines give one
-pub write_call_refused : (e : Entry) (s : Screen) (n : EntryWrittenNumbers) (k p : ℕ) → n ≡ written_numbers (written_for e s) → 0 < k
+pub write_call_refused : (e : Entry) (s : Screen) (n : WrittenNumbers) (k p : ℕ) → n ≡ written_numbers (written_for e s) → 0 < k
     → ((n.refusal ≡ k) × (n.place ≡ p)) ↔ (s ≡ Refused k p)
 write_call_refused e s n k p is some = (λ h. go s is h.0 h.1, λ h. back (is ∙ ap (λ (t : Screen). written_numbers (written_for e t)) h))
   where
     go : (s : Screen) → n ≡ written_numbers (written_for e s) → n.refusal ≡ k → n.place ≡ p → s ≡ Refused k p
-    go Passed c h f = absurd (omega (arith, ap (λ (m : EntryWrittenNumbers). m.refusal) c))
+    go Passed c h f = absurd (omega (arith, ap (λ (m : WrittenNumbers). m.refusal) c))
     go (Refused j q) c h f =
-        let number : j ≡ k = sym (ap (λ (m : EntryWrittenNumbers). m.refusal) c) ∙ h in
-        let place : q ≡ p = sym (ap (λ (m : EntryWrittenNumbers). m.place) c) ∙ f in
+        let number : j ≡ k = sym (ap (λ (m : WrittenNumbers). m.refusal) c) ∙ h in
+        let place : q ≡ p = sym (ap (λ (m : WrittenNumbers). m.place) c) ∙ f in
         rw (number, place)
 
     back : n ≡ written_numbers (written_for e (Refused k p)) → (n.refusal ≡ k) × (n.place ≡ p)
-    back c = (ap (λ (m : EntryWrittenNumbers). m.refusal) c, ap (λ (m : EntryWrittenNumbers). m.place) c)
+    back c = (ap (λ (m : WrittenNumbers). m.refusal) c, ap (λ (m : WrittenNumbers). m.place) c)
 
 -- no refusal and no byte taken: exactly where the rest of the file is empty
 pub called_empty : {rest room : List ℕ} {n : EntryNumbers} {room' : List ℕ} → ReadCalled rest room n room' → ((n.refusal ≡ 0) × (n.taken ≡ 0)) ↔ (rest ≡ [])

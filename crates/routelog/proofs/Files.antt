@@ -5,8 +5,7 @@ use Prim.Native.Nat.{ℕ, zero, suc, ◌≤◌}
 use native.Mathlib.Omega.{arith}
 use lib.ListN.{length, length-drop}
 use lib.Seq.{drop-append_seam}
-use Rattle.floor.specs.declared.Screen.{Screen}
-use Rattle.floor.specs.declared.Screen.TheVariants.{Passed, Refused}
+use Rattle.floor.specs.Screen.{Screen, Passed, Refused}
 use Rattle.logentries.specs.Entry.{Entry, entry_bytes}
 use Rattle.routelog.specs.Reading.{Reading, empty, refused, entry, reading_of}
 use Rattle.routelog.specs.File.{file_bytes, Log, log_with, rest_after, and_then, entries_of, log_of, AllEntries}

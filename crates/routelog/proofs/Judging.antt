@@ -5,7 +5,7 @@ use mathlib.Core.List.{List}
 use Prim.Native.Nat.{ℕ, ◌+◌, ◌-◌, ◌≤◌, ◌<◌}
 use borrow.Author.Tests.{lt-ltb, le-ltb}
 use lib.ListN.{length, take, drop}
-use Rattle.floor.specs.declared.Screen.TheVariants.{Passed, Refused}
+use Rattle.floor.specs.Screen.{Passed, Refused}
 use Rattle.floor.specs.Refusal.{screen}
 use Rattle.recordlayout.specs.Record.{record_size}
 use Rattle.logentries.specs.Entry.{route_size, can_be_logged, steps_in, all_directions, all_filler}

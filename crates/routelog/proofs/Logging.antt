@@ -8,8 +8,7 @@ use lib.Dec.{T}
 use lib.ListN.{replicate}
 use Rattle.paths.specs.Graph.{MARK}
 use Rattle.floor.specs.declared.RouteLength.{RouteLength}
-use Rattle.answering.specs.declared.Answer.{Answer}
-use Rattle.answering.specs.declared.Answer.TheVariants.{Found, None, Stopped}
+use Rattle.answering.specs.Answer.{Answer, Found, None, Stopped}
 use Rattle.answering.specs.Answers.{numbers_of}
 use Rattle.recordlayout.specs.Record.{record_of, answer_in}
 use Rattle.recordlayout.proofs.Records.{number_back}

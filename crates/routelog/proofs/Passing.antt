@@ -8,7 +8,7 @@ use lib.Dec.{T, nltb→le}
 use lib.ListN.{length, take, drop, length-drop}
 use lib.Seq.{length-take-le}
 use Rattle.paths.proofs.Bools.{T_true, T_and, T_not-not}
-use Rattle.floor.specs.declared.Screen.TheVariants.{Passed}
+use Rattle.floor.specs.Screen.{Passed}
 use Rattle.floor.specs.Refusal.{screen}
 use Rattle.floor.proofs.Screens.{none_given}
 use Rattle.recordlayout.specs.Record.{record_size}

@@ -8,16 +8,15 @@ use native.Mathlib.Decide.{ℕ_discrete, dec_lt}
 use native.Mathlib.Omega.{arith}
 use lib.ListN.{length, get_or, take, drop, length-drop}
 use lib.Seq.{length-take-le, get_or-take, get_or-drop}
-use Rattle.floor.specs.declared.Screen.{Screen}
-use Rattle.floor.specs.declared.Screen.TheVariants.{Passed, Refused}
+use Rattle.std.specs.Prelude.{Option, Result}
+use Rattle.floor.specs.declared.refusals.Refusal.{Refusal}
+use Rattle.floor.specs.Screen.{Screen, Passed, Refused}
 use Rattle.floor.specs.Refusal.{screen}
-use Rattle.floor.specs.Numbers.{Numbers}
+use Rattle.floor.specs.Numbers.{Numbers, written_as}
 use Rattle.recordlayout.specs.Record.{record_size}
-use Rattle.routelog.specs.declared.Outcome.{Outcome}
-use Rattle.routelog.specs.declared.EntryWritten.{EntryWritten}
+use Rattle.routelog.specs.declared.EntryRead.{EntryRead}
 use Rattle.logentries.specs.Entry.{Entry, entry_bytes, route_size, filler, can_be_logged, steps_in, all_directions, all_filler}
 use Rattle.routelog.specs.Reading.{answer_at, route_at, route_lines, read_lines, Reading, empty, refused, entry, reading_of, numbers_of, outcome_for}
-use Rattle.routelog.specs.Writing as writes
 use Rattle.routelog.specs.Writing.{part_lines, write_lines, written_for}
 use Rattle.routelog.specs.Refusals.{WrongByte, HasRecords, HasRoute, ReaderRefuses, WriterRefuses}
 use Rattle.logentries.proofs.Bytes.{within_at, outside}
@@ -25,7 +24,6 @@ use Rattle.logentries.proofs.Sizes.{size_holds}
 use Rattle.routelog.proofs.Judging as judging
 use Rattle.routelog.proofs.Taking.{reading_empty, reading_judged}
 use Rattle.routelog.proofs.Writing as writing
-use Rattle.routelog.proofs.Promises.{outcome_of, outcome_back, written_of, written_back}
 
 -- the two tests of a route's bytes, against a wrong byte among them
 module _ (n : ℕ) (bytes : List ℕ) (long : route_size n ≤ length bytes) where
@@ -213,8 +211,9 @@ module _ (e : Entry) (room : ℕ) where
           (subst (λ (j : ℕ). WriterRefuses e room j) number w.1, place)
 
 -- the reader's own answer is a refusal exactly when the reading is
-pub outcome_refused : (y : Reading) (o : Outcome) (k p : ℕ) → numbers_of o ≡ outcome_for y → (o ≡ Outcome.Refused k p) ↔ (y ≡ refused k p)
-outcome_refused y o k p is = (λ e. go y (sym (ap numbers_of e) ∙ is), λ e. sym (outcome_back o) ∙ ap outcome_of (is ∙ ap outcome_for e))
+pub outcome_refused : (y : Reading) (r : Result (Option EntryRead) Refusal) (k p : ℕ) → numbers_of r ≡ outcome_for y
+    → (numbers_of r ≡ Numbers.refused k p) ↔ (y ≡ refused k p)
+outcome_refused y r k p is = (λ e. go y (sym e ∙ is), λ e. is ∙ ap outcome_for e)
   where
     go : (y : Reading) → Numbers.refused k p ≡ outcome_for y → y ≡ refused k p
     go empty e = let z : ◌≡◌ {A = ℕ} 0 1 = cc in absurd (omega arith)
@@ -222,8 +221,9 @@ outcome_refused y o k p is = (λ e. go y (sym (ap numbers_of e) ∙ is), λ e. s
     go (entry y) e = let z : ◌≡◌ {A = ℕ} 0 1 = cc in absurd (omega arith)
 
 -- and the writer's exactly when its lines give one
-pub written_refused : (e : Entry) (s : Screen) (w : EntryWritten) (k p : ℕ) → writes.numbers_of w ≡ written_for e s → (w ≡ EntryWritten.Refused k p) ↔ (s ≡ Refused k p)
-written_refused e s w k p is = (λ y. go s (sym (ap writes.numbers_of y) ∙ is), λ y. sym (written_back w) ∙ ap written_of (is ∙ ap (written_for e) y))
+pub written_refused : (e : Entry) (s : Screen) (w : Result ℕ Refusal) (k p : ℕ) → written_as w ≡ written_for e s
+    → (written_as w ≡ Numbers.refused k p) ↔ (s ≡ Refused k p)
+written_refused e s w k p is = (λ y. go s (sym y ∙ is), λ y. is ∙ ap (written_for e) y)
   where
     go : (s : Screen) → Numbers.refused k p ≡ written_for e s → s ≡ Refused k p
     go Passed y = let z : ◌≡◌ {A = ℕ} 0 1 = cc in absurd (omega arith)

@@ -9,6 +9,7 @@ use native.Mathlib.Omega.{arith}
 use lib.Dec.{T, eqb, leb, ltb, le→leb, lt→ltb, ltb→lt, T_not}
 use lib.ListN.{length, get_or, take, drop, length-append}
 use lib.Seq.{take-append_seam, length-take-le}
+use Rattle.std.specs.Prelude.{Result, Err}
 use Rattle.paths.specs.Graph.{Graph, Lawful, MARK}
 use Rattle.paths.specs.Route.{walks}
 use Rattle.paths.specs.Table.{Right}
@@ -19,22 +20,23 @@ use Rattle.settling.specs.Order.{L, place}
 use Rattle.settling.specs.Answer.{Row, answer_of}
 use Rattle.settling.proofs.Orders.{known_is, in_known, in_at, place_absent}
 use Rattle.floor.specs.declared.Floor.{Floor}
+use Rattle.floor.specs.declared.refusals.Refusal.{Refusal}
+use Rattle.floor.specs.declared.refusals.Refusal.TheVariants.{BadDirections}
 use Rattle.floor.specs.Place.{cells}
 use Rattle.floor.specs.Step.{graph}
 use Rattle.floor.specs.Length.{route_length}
 use Rattle.floor.specs.Refusal.{HasPassed}
 use Rattle.floor.proofs.Laws.{lawful, least_cost_bound}
 use Rattle.floor.proofs.Questions.{question_passed, start_inside, goal_inside}
-use Rattle.answering.specs.declared.Answer.{Answer}
+use Rattle.answering.specs.Answer.{Answer}
 use Rattle.answering.specs.Answers.{answer_by, numbers_of}
 use Rattle.answering.specs.Rooms.{Rooms}
-use Rattle.answering.specs.Question.{Question}
+use Rattle.answering.specs.declared.Question.{Question}
 use Rattle.search.specs.Search.{Searched}
 use Rattle.search.proofs.Lending.{search_question}
 use Rattle.search.proofs.Promise.{search_numbers}
 use Rattle.recordlayout.specs.Record.{record_size, record_of}
 use Rattle.recordlayout.proofs.Records.{record_length}
-use Rattle.routelog.specs.declared.EntryWritten.{EntryWritten}
 use Rattle.logentries.specs.Entry.{Entry, entry_of, greatest_length, can_be_logged, all_directions, IsEntry}
 use Rattle.routelog.specs.Writing.{IsWritten}
 use Rattle.routelog.proofs.Writing.{count_wrong, written_refused}
@@ -147,8 +149,8 @@ logs_entry question route a whole l =
     }
 
 -- and takes no other count of directions with that answer
-pub other_count : (e : Entry) (room room' : List ℕ) (a : Answer) {w : EntryWritten} → CanLog a → e.answer ≡ record_of a → length e.route ≢ (numbers_of a).length
-    → IsWritten e room w room' → (w ≡ EntryWritten.Refused 63 0) × (room' ≡ room)
+pub other_count : (e : Entry) (room room' : List ℕ) (a : Answer) {w : Result ℕ Refusal} → CanLog a → e.answer ≡ record_of a → length e.route ≢ (numbers_of a).length
+    → IsWritten e room w room' → (w ≡ Err BadDirections) × (room' ≡ room)
 other_count e room room' a can is other x =
     let fits = answer_logged can in
     let logged = T_true (can_be_logged e.answer) (rw is fits.0) in

@@ -10,8 +10,9 @@ use borrow.Author.Tests.{le-ltb}
 use lib.ListN.{length, take, drop, length-append, length-drop, take-append-drop}
 use lib.Seq.{length-take-le, take_all, take-append-le, drop-append-le}
 use Rattle.paths.proofs.Bools.{true_T}
-use Rattle.floor.specs.declared.Screen.{Screen}
-use Rattle.floor.specs.declared.Screen.TheVariants.{Passed, Refused}
+use Rattle.std.specs.Prelude.{Option, Result}
+use Rattle.floor.specs.declared.refusals.Refusal.{Refusal}
+use Rattle.floor.specs.Screen.{Screen, Passed, Refused}
 use Rattle.floor.specs.Refusal.{screen}
 use Rattle.recordlayout.specs.Record.{record_size}
 use Rattle.routelog.specs.declared.EntryRead.{EntryRead}
@@ -95,7 +96,7 @@ window_reads rest room n h = elim (dec_lt n (length rest)) [
     few piece e = sizes_rise (steps_in (answer_at piece)) greatest_length (steps_few (answer_at piece) (true_T (can_be_logged (answer_at piece)) e))
 
 -- so the reader may be lent a window of the file
-pub window_read : (rest room : List ℕ) (n : ℕ) {r : EntryRead} {room' : List ℕ} → greatest_entry ≤ n → IsRead (take n rest) room r room' → IsRead rest room r room'
+pub window_read : (rest room : List ℕ) (n : ℕ) {r : Result (Option EntryRead) Refusal} {room' : List ℕ} → greatest_entry ≤ n → IsRead (take n rest) room r room' → IsRead rest room r room'
 window_read rest room n h x = rw (← window_reads rest (length room) n h) x
 
 -- and a piece of any length but 0, unless that is refused as 61, reads as the file does

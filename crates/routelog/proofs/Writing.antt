@@ -8,15 +8,16 @@ use native.Mathlib.Omega.{arith}
 use borrow.Author.Tests.{eq-eqb, ne_eqb, lt-ltb, le-ltb}
 use lib.Dec.{T, ltb, eqb, eqb→eq}
 use lib.ListN.{length}
+use Rattle.std.specs.Prelude.{Ok, Err}
 use Rattle.paths.proofs.Bools.{T_and, T_not-not}
-use Rattle.floor.specs.declared.Screen.{Screen}
-use Rattle.floor.specs.declared.Screen.TheVariants.{Passed, Refused}
+use Rattle.floor.specs.declared.refusals.Refusal.{Refusal}
+use Rattle.floor.specs.declared.refusals.Refusal.TheVariants.{ShortRoom}
+use Rattle.floor.specs.Refusals.{number_of, place_of}
+use Rattle.floor.specs.Screen.{Screen, Passed, Refused}
 use Rattle.floor.specs.Refusal.{Line, line, screen}
 use Rattle.floor.proofs.Screens.{none_given, and_then, screen_append}
 use Rattle.putting.specs.Put.{IsPut}
 use Rattle.putting.proofs.Puts.{sets_whole}
-use Rattle.routelog.specs.declared.EntryWritten.{EntryWritten}
-use Rattle.routelog.specs.declared.EntryWritten.TheVariants.{Length}
 use Rattle.logentries.specs.Entry.{Entry, entry_bytes, greatest_length, can_be_logged, steps_in, all_directions}
 use Rattle.routelog.specs.Writing.{part_lines, write_lines, IsWritten}
 use Rattle.logentries.proofs.Answers.{steps_few}
@@ -68,14 +69,14 @@ module _ (e : Entry) (size : ℕ) where
     room_enough h = after_parts passed ∙ rw (le-ltb size (length (entry_bytes e)) h)
 
 module _ (e : Entry) (room : List ℕ) where
-  pub written_refused : {n p : ℕ} → screen (part_lines e.answer e.route) ≡ Refused n p → IsWritten e room (EntryWritten.Refused n p) room
+  pub written_refused : {x : Refusal} → screen (part_lines e.answer e.route) ≡ Refused (number_of x) (place_of x) → IsWritten e room (Err x) room
   written_refused x = let y = after_parts e (length room) x in record { answers = rw y; leaves = rw y }
 
   module _ (passed : screen (part_lines e.answer e.route) ≡ Passed) where
-    pub written_short : length room < length (entry_bytes e) → IsWritten e room (EntryWritten.Refused 64 0) room
+    pub written_short : length room < length (entry_bytes e) → IsWritten e room (Err ShortRoom) room
     written_short h = let x = room_short e (length room) passed h in record { answers = rw x; leaves = rw x }
 
-    pub written_whole : {r : ℕ} {room' : List ℕ} → length (entry_bytes e) ≤ length room → IsPut (entry_bytes e) room 0 r room' → IsWritten e room (Length r) room'
+    pub written_whole : {r : ℕ} {room' : List ℕ} → length (entry_bytes e) ≤ length room → IsPut (entry_bytes e) room 0 r room' → IsWritten e room (Ok r) room'
     written_whole {r} h p =
         let x = room_enough e (length room) passed h in
         let size : r ≡ length (entry_bytes e) = omega (arith, p.next) in

@@ -1,10 +1,10 @@
 -- What the calls from C promise: the numbers of the reader and the writer in a struct, in which those that a case does not have are 0.
 -- An entry takes at least two records, so that no refusal and no byte taken is the rest that is empty.
 use Rattle.std.specs.Prelude.{◌≡◌, List, ℕ, length, get_or}
-use Rattle.floor.specs.Numbers.{Numbers, refused, fault, gives}
+use Rattle.floor.specs.declared.written.WrittenNumbers.{WrittenNumbers}
+use Rattle.floor.specs.Numbers.{Numbers, refused, fault, gives, written_numbers}
 use Rattle.floor.specs.Refusal.{screen}
 use Rattle.routelog.specs.declared.EntryNumbers.{EntryNumbers}
-use Rattle.routelog.specs.declared.EntryWrittenNumbers.{EntryWrittenNumbers}
 use Rattle.logentries.specs.Entry.{Entry}
 use Rattle.routelog.specs.Reading.{Reading, reading_of, outcome_for, question_for, answer_for, route_left}
 use Rattle.routelog.specs.Writing.{write_lines, written_for, entry_left}
@@ -18,18 +18,12 @@ entry_numbers (gives vs) q a = record { refusal = 0; place = 0; length = get_or 
 abbrev pub called_as : Reading → EntryNumbers
 called_as x = entry_numbers (outcome_for x) (question_for x) (answer_for x)
 
--- refusal and place, or the entry's length
-abbrev pub written_numbers : Numbers → EntryWrittenNumbers
-written_numbers (refused n p) = record { refusal = n; place = p; length = 0 }
-written_numbers (fault n p) = record { refusal = n; place = p; length = 0 }
-written_numbers (gives vs) = record { refusal = 0; place = 0; length = get_or vs 0 0 }
-
 -- the promise of the reader's call: its numbers and its room are the reader's
 pub record ReadCalled (rest room : List ℕ) (n : EntryNumbers) (room' : List ℕ) : Type 0 where
   pub numbers : n ≡ called_as (reading_of rest (length room))
   pub leaves : room' ≡ route_left (reading_of rest (length room)) room
 
 -- and of the writer's
-pub record WriteCalled (e : Entry) (room : List ℕ) (n : EntryWrittenNumbers) (room' : List ℕ) : Type 0 where
+pub record WriteCalled (e : Entry) (room : List ℕ) (n : WrittenNumbers) (room' : List ℕ) : Type 0 where
   pub numbers : n ≡ written_numbers (written_for e (screen (write_lines e (length room))))
   pub leaves : room' ≡ entry_left e room (screen (write_lines e (length room)))

@@ -1,7 +1,6 @@
 -- A whole file of the route log: 02, R-1. It is read entry by entry.
 use Rattle.std.specs.Prelude.{cond, List, [], ◌∷◌, ◌++◌, ℕ, zero, suc, ◌-◌, ◌≤◌, leb, eqb, length, drop}
-use Rattle.floor.specs.declared.Screen.{Screen}
-use Rattle.floor.specs.declared.Screen.TheVariants.{Passed, Refused}
+use Rattle.floor.specs.Screen.{Screen, Passed, Refused}
 use Rattle.logentries.specs.Entry.{Entry, entry_bytes, IsEntry}
 use Rattle.routelog.specs.Reading.{Reading, empty, refused, entry, reading_of}
 

@@ -1,12 +1,10 @@
 -- What the reader answers and leaves, for the rest of a file: 02, R-1.
-use Rattle.std.specs.Prelude.{◌≡◌, cond, not, ◌&&◌, List, [], ◌∷◌, ◌++◌, ℕ, ◌+◌, ◌-◌, eqb, ltb, length, take, drop, replicate}
-use Rattle.floor.specs.declared.Screen.{Screen}
-use Rattle.floor.specs.declared.Screen.TheVariants.{Passed, Refused}
+use Rattle.std.specs.Prelude.{◌≡◌, Option, Some, None, Result, Ok, Err, cond, not, ◌&&◌, List, [], ◌∷◌, ◌++◌, ℕ, ◌+◌, ◌-◌, eqb, ltb, length, take, drop, replicate}
+use Rattle.floor.specs.declared.refusals.Refusal.{Refusal}
+use Rattle.floor.specs.Screen.{Screen, Passed, Refused}
 use Rattle.floor.specs.Refusal.{Line, line, screen}
-use Rattle.floor.specs.Numbers.{Numbers, gives}
+use Rattle.floor.specs.Numbers.{Numbers, gives, refused_as}
 use Rattle.recordlayout.specs.Record.{record_size}
-use Rattle.routelog.specs.declared.Outcome.{Outcome}
-use Rattle.routelog.specs.declared.Outcome.TheVariants.{Empty, Logged}
 use Rattle.routelog.specs.declared.EntryRead.{EntryRead}
 use Rattle.logentries.specs.Entry.{Entry, entry_of, entry_bytes, route_size, greatest_length, can_be_logged, steps_in, all_directions, all_filler}
 
@@ -57,10 +55,10 @@ abbrev pub greatest_entry : ℕ
 greatest_entry = record_size + record_size + route_size greatest_length
 
 -- the paper's numbers of each case: none if the rest is empty, the refusal, or the route's length and how many bytes the entry took
-abbrev pub numbers_of : Outcome → Numbers
-numbers_of Empty = gives []
-numbers_of (Outcome.Refused n p) = Numbers.refused n p
-numbers_of (Logged n taken) = gives (n ∷ taken ∷ [])
+abbrev pub numbers_of : Result (Option EntryRead) Refusal → Numbers
+numbers_of (Ok None) = gives []
+numbers_of (Ok (Some e)) = gives (e.length ∷ e.taken ∷ [])
+numbers_of (Err r) = refused_as r
 
 abbrev pub outcome_for : Reading → Numbers
 outcome_for empty = gives []
@@ -71,8 +69,15 @@ outcome_for (entry e) = gives (length e.route ∷ length (entry_bytes e) ∷ [])
 abbrev pub no_record : List ℕ
 no_record = replicate record_size 0
 
-abbrev pub no_entry : Outcome → EntryRead
-no_entry o = record { outcome = o; question = no_record; answer = no_record }
+abbrev pub question_read : Result (Option EntryRead) Refusal → List ℕ
+question_read (Ok None) = no_record
+question_read (Ok (Some e)) = e.question
+question_read (Err r) = no_record
+
+abbrev pub answer_read : Result (Option EntryRead) Refusal → List ℕ
+answer_read (Ok None) = no_record
+answer_read (Ok (Some e)) = e.answer
+answer_read (Err r) = no_record
 
 abbrev pub question_for : Reading → List ℕ
 question_for empty = no_record
@@ -91,11 +96,11 @@ route_left (refused n p) room = room
 route_left (entry e) room = e.route ++ drop (length e.route) room
 
 -- the reader's promise, for a room of any length and content, by a reading x
-pub record ReadAs (x : Reading) (room : List ℕ) (r : EntryRead) (room' : List ℕ) : Type 0 where
-  pub outcome : numbers_of r.outcome ≡ outcome_for x
-  pub question : r.question ≡ question_for x
-  pub answer : r.answer ≡ answer_for x
+pub record ReadAs (x : Reading) (room : List ℕ) (r : Result (Option EntryRead) Refusal) (room' : List ℕ) : Type 0 where
+  pub outcome : numbers_of r ≡ outcome_for x
+  pub question : question_read r ≡ question_for x
+  pub answer : answer_read r ≡ answer_for x
   pub leaves : room' ≡ route_left x room
 
-abbrev pub IsRead : List ℕ → List ℕ → EntryRead → List ℕ → Type 0
+abbrev pub IsRead : List ℕ → List ℕ → Result (Option EntryRead) Refusal → List ℕ → Type 0
 IsRead rest room r room' = ReadAs (reading_of rest (length room)) room r room'
