@@ -7,20 +7,19 @@ use native.Mathlib.Nat.{mul-le-mul}
 use native.Mathlib.Omega.{arith}
 use borrow.Author.Tests.{le-ltb}
 use lib.ListN.{length}
+use Rattle.std.specs.Prelude.{Ok}
 use Rattle.settling.specs.Answer.{Kind, Row}
 use Rattle.floor.specs.declared.Floor.{Floor}
-use Rattle.floor.specs.declared.Screen.{Screen}
-use Rattle.floor.specs.declared.Screen.TheVariants.{Passed, Refused}
+use Rattle.floor.specs.Screen.{Screen, Passed, Refused}
 use Rattle.floor.specs.Place.{cells}
 use Rattle.floor.specs.declared.RouteLength.{RouteLength}
 use Rattle.floor.specs.Length.{route_length}
 use Rattle.floor.specs.Refusal.{screen, question_lines}
 use Rattle.floor.proofs.Screens.{and_then, screen_append}
 use Rattle.floor.proofs.Lines.{number_between}
-use Rattle.maptext.specs.declared.Read.TheVariants.{Map}
 use Rattle.maptext.specs.Reading as reading
 use Rattle.maptext.specs.Reading.{read_for}
-use Rattle.answering.specs.declared.Answer.{Answer}
+use Rattle.answering.specs.Answer.{Answer}
 use Rattle.answering.specs.Answers.{row_of, answered, numbers_of}
 use Rattle.answering.specs.Rooms.{Rooms, room_lines}
 use Rattle.search.specs.Search.{limit_line, search_lines, refused, passed}
@@ -30,7 +29,7 @@ use Rattle.mapuse.proofs.Using.{can_use}
 use Rattle.desk.specs.Desk.{with_ways, Asked, no_zeros, searched}
 use Rattle.desk.specs.Room.{EnoughRoom}
 
-module _ (text : List ℕ) (room : ℕ) (f : Floor) (used : reading.numbers_of (Map f) ≡ read_for (used_of text room)) (r : Rooms) (enough : EnoughRoom r) where
+module _ (text : List ℕ) (room : ℕ) (f : Floor) (used : reading.numbers_of (Ok f) ≡ read_for (used_of text room)) (r : Rooms) (enough : EnoughRoom r) where
   rooms_pass : (ways : ℕ) → screen (room_lines (with_ways f ways) (length r.costs) (length r.work) (length r.route)) ≡ Passed
   rooms_pass ways =
       let x = can_use text room f used in

@@ -7,8 +7,7 @@ use Prim.Native.Nat.{ℕ, ◌+◌, ◌*◌, ◌≤◌, ◌<◌}
 use native.Mathlib.Decide.{ℕ_discrete, dec_lt}
 use native.Mathlib.Omega.{arith}
 use lib.Dec.{eqb, leb, ltb, ltb→lt}
-use lib.ListN.{length, get_or, take, drop, length-take, get_or-eq_default}
-use lib.Seq.{get_or-take, get_or-drop}
+use lib.ListN.{length, get_or, get_or-eq_default}
 use Rattle.paths.specs.Graph.{MARK}
 use Rattle.paths.specs.First.{first_route}
 use Rattle.paths.specs.Table.{Right}
@@ -28,10 +27,10 @@ use Rattle.floor.proofs.Passing.{facts, few_cells}
 use Rattle.floor.proofs.Laws.{lawful, least_cost_bound}
 use Rattle.floor.proofs.Lengths.{cost_parts}
 use Rattle.floor.proofs.Questions.{question_passed, start_inside, goal_inside}
-use Rattle.answering.specs.declared.Answer.{Answer}
+use Rattle.answering.specs.Answer.{Answer}
 use Rattle.answering.specs.Answers.{answer_by, numbers_of}
 use Rattle.answering.specs.Rooms.{Rooms}
-use Rattle.answering.specs.Question.{Question}
+use Rattle.answering.specs.declared.Question.{Question}
 use Rattle.search.specs.Search.{Searched, refused, passed}
 use Rattle.search.proofs.Lending.{search_question}
 use Rattle.search.proofs.Promise.{search_numbers}
@@ -137,10 +136,3 @@ pub answers_fit : (f : Floor) (m question : List ℕ) (r : Rooms) {a : Answer} {
     → InRecord (numbers_of a)
 answers_fit f m question r small (no_zeros z e l) = rw e (refusal_in_record 13 0 (omega arith))
 answers_fit f m question r small (searched z x) = searched_fits _ m (question_in question) r (number_small question 8 small) x
-
--- bytes are small in every part of a list of bytes
-pub small_part : (bytes : List ℕ) (at n : ℕ) → ((v : ℕ) → get_or bytes v 0 < 256) → (v : ℕ) → get_or (take n (drop at bytes)) v 0 < 256
-small_part bytes at n small v = elim (dec_lt v n) [
-  | yes h ↦ rw (get_or-take n (drop at bytes) v 0 h, get_or-drop at bytes v 0) (small (at + v))
-  | no h ↦ omega (arith, get_or-eq_default (take n (drop at bytes)) 0 {n = v} (omega (arith, length-take n (drop at bytes))))
-]

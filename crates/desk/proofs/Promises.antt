@@ -5,7 +5,7 @@ use Prim.Native.Nat.{ℕ, zero, suc}
 use native.Mathlib.Omega.{arith}
 use lib.ListN.{take, drop, take-append-drop}
 use Rattle.floor.specs.declared.Floor.{Floor}
-use Rattle.answering.specs.declared.Answer.{Answer}
+use Rattle.answering.specs.Answer.{Answer}
 use Rattle.answering.specs.Rooms.{Rooms}
 use Rattle.search.proofs.Promise.{one_search}
 use Rattle.recordlayout.specs.Record.{record_size, question_in}

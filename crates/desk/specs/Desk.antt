@@ -2,7 +2,7 @@
 use Rattle.std.specs.Prelude.{◌≡◌, true, false, List, ◌++◌, ℕ, zero, suc, ◌*◌, ◌/◌, length, take, drop}
 use Rattle.floor.specs.declared.Floor.{Floor}
 use Rattle.floor.specs.Place.{floor_of}
-use Rattle.answering.specs.declared.Answer.{Answer}
+use Rattle.answering.specs.Answer.{Answer}
 use Rattle.answering.specs.Rooms.{Rooms}
 use Rattle.search.specs.Search.{Searched}
 use Rattle.recordlayout.specs.Record.{record_size, question_in, ways_in, ends_in_zeros, record_of}

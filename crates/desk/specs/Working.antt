@@ -2,7 +2,7 @@
 use Rattle.std.specs.Prelude.{◌≡◌, List, ℕ, take, drop}
 use Rattle.std.proofs.Math.Seq.{paste}
 use Rattle.floor.specs.declared.Floor.{Floor}
-use Rattle.answering.specs.declared.Answer.{Answer}
+use Rattle.answering.specs.Answer.{Answer}
 use Rattle.answering.specs.Rooms.{Rooms}
 use Rattle.recordlayout.specs.Record.{record_size, record_of}
 use Rattle.desk.specs.Desk.{Asked}

@@ -1,16 +1,16 @@
 // Questions answered in place.
 ghost use Rattle.std.specs.Prelude.{◌+◌, ◌≤◌, length};
+ghost use Rattle.answering.specs.Answer.{answer_of};
 ghost use Rattle.answering.specs.Rooms.{rooms};
 ghost use Rattle.recordlayout.specs.Record.{record_size};
 ghost use Rattle.desk.specs.Desk.{Asked, IsAnswered};
 ghost use Rattle.desk.specs.Working.{AnsweredAt};
 
-use answering::Answer;
-use floor::Floor;
-use putting::put;
+use answering::{Outcome, Question};
+use floor::{Floor, Refusal};
 use recordlayout::RECORD_SIZE;
 use recordlayout::answers::record_of;
-use recordlayout::fields::{all_zero, number_at, widened};
+use recordlayout::fields::{all_zero, number_at};
 use search::rooms::search;
 
 // 01: start, goal, limit (4 bytes each), ways (1), and zeros, which are looked at before all else.
@@ -21,22 +21,23 @@ fn ask(
     costs: &mut [u32],
     work: &mut [u32],
     route: &mut [u8],
-) -> Answer
+) -> Result<Outcome, Refusal>
     requires { record_size ≤ length question.now }
-    ensures { Asked f map.now question.now (rooms costs.old work.old route.old) result (rooms costs.new work.new route.new) }
+    ensures { Asked f map.now question.now (rooms costs.old work.old route.old) (answer_of result) (rooms costs.new work.new route.new) }
 {
-    if all_zero(&question[13..]) {
-        let start = number_at(question, 0);
-        let goal = number_at(question, 4);
-        let limit = number_at(question, 8);
-        let floor = Floor {
-            width: f.width,
-            height: f.height,
-            ways: widened(question[12]) as usize,
-        };
-        return search(floor, map, start, goal, limit, costs, work, route);
+    if !all_zero(&question[13..]) {
+        return Err(Refusal::NoZeros);
     }
-    Answer::Refused(13, 0)
+    let floor = Floor {
+        ways: question[12] as usize,
+        ..f
+    };
+    let question = Question {
+        start: number_at(question, 0) as usize,
+        goal: number_at(question, 4) as usize,
+        limit: number_at(question, 8) as usize,
+    };
+    search(floor, map, question, costs, work, route)
 }
 
 // Answers the record at an offset of the buffer in its place.
@@ -52,10 +53,8 @@ fn answer_at(
     requires { at + record_size ≤ length records.old }
     ensures { AnsweredAt f map.now records.old at (rooms costs.old work.old route.old) records.new (rooms costs.new work.new route.new) }
 {
-    let end = at + RECORD_SIZE;
-    let answer = ask(f, map, &records[at..end], costs, work, route);
-    let record = record_of(answer);
-    put(&record, records, at);
+    let answer = ask(f, map, &records[at..at + RECORD_SIZE], costs, work, route);
+    records[at..at + RECORD_SIZE].copy_from_slice(&record_of(answer));
 }
 
 // Answers every whole record of the buffer, in order, and gives the number of bytes that are answers now. A broken last record stays as it is.
@@ -69,12 +68,9 @@ pub fn answer_records(
 ) -> usize
     ensures { IsAnswered f map.now records.old (rooms costs.old work.old route.old) result records.new (rooms costs.new work.new route.new) }
 {
-    let mut left = records.len() / RECORD_SIZE;
-    let mut at = 0;
-    while 0 < left {
-        answer_at(f, map, records, at, costs, work, route);
-        at += RECORD_SIZE;
-        left -= 1;
+    let count = records.len() / RECORD_SIZE;
+    for i in 0..count {
+        answer_at(f, map, records, i * RECORD_SIZE, costs, work, route);
     }
-    at
+    count * RECORD_SIZE
 }

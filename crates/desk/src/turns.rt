@@ -7,15 +7,6 @@ ghost use Rattle.desk.specs.Turn.{ArrivedAnswered, IsKept};
 use crate::records::answer_records;
 use floor::Floor;
 
-fn least(a: usize, b: usize) -> usize
-    ensures { result ≡ min a b }
-{
-    if a < b {
-        return a;
-    }
-    b
-}
-
 // Answers the whole records among the first `end` bytes of the buffer and gives the number of bytes that are answers now.
 pub fn answer_arrived(
     f: Floor,
@@ -28,7 +19,7 @@ pub fn answer_arrived(
 ) -> usize
     ensures { ArrivedAnswered f map.now buffer.old end (rooms costs.old work.old route.old) result buffer.new (rooms costs.new work.new route.new) }
 {
-    let arrived = least(end, buffer.len());
+    let arrived = end.min(buffer.len());
     answer_records(f, map, &mut buffer[0..arrived], costs, work, route)
 }
 
@@ -36,13 +27,11 @@ pub fn answer_arrived(
 pub fn keep_tail(buffer: &mut [u8], from: usize, end: usize) -> usize
     ensures { IsKept buffer.old from end result buffer.new }
 {
-    let arrived = least(end, buffer.len());
-    let first = least(from, arrived);
+    let arrived = end.min(buffer.len());
+    let first = from.min(arrived);
     let count = arrived - first;
-    let mut i = 0;
-    while i < count {
+    for i in 0..count {
         buffer[i] = buffer[first + i];
-        i += 1;
     }
     count
 }
