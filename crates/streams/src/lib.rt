@@ -4,7 +4,7 @@
 #![tactic(auto)]
 
 ghost use Rattle.std.specs.Prelude.{◌≡◌, ◌≤◌, ◌<◌, length, take, IfNone};
-ghost use Rattle.streams.specs.Streams.{PieceIn, TextIn, text_at_end};
+ghost use Rattle.streams.specs.Streams.{PieceIn, TextIn};
 
 use std::io;
 use std::io::{Read, Write};
@@ -14,21 +14,6 @@ mod waiting; // waiting.rt: a short sleep
 
 use waiting::{put_off_too_often, wait_if_put_off};
 
-// What one read brought: so many bytes, the end of the input, or a failure with its reason.
-#[derive(Clone, Copy)]
-pub enum Piece {
-    Bytes(usize),
-    End,
-    Failure(io::Error),
-}
-
-// The length of the text that was read from a file, or why it could not be read.
-#[derive(Clone, Copy)]
-pub enum Text {
-    Length(usize),
-    Unread(io::Error),
-}
-
 // How many bytes were taken, and why not all were, if a write failed.
 #[derive(Clone, Copy)]
 pub struct Taken {
@@ -36,50 +21,40 @@ pub struct Taken {
     pub failure: Option<io::Error>,
 }
 
-// One read into the room from `have` on. There is room for a byte at least: else no bytes would not mean that the input has ended.
+// One read into the room from `have` on: how many bytes it brought, and none at the end of the input. There is room for a byte at least: else no bytes would
+// not mean that the input has ended.
 // A proved loop has to end, and nothing says that a file stops putting a read off: the loop counts up to a number that no run reaches.
-pub fn read_piece<R: Read>(clock: &impl Clock, file: &mut R, room: &mut [u8], have: usize) -> Piece
+pub fn read_piece<R: Read>(
+    clock: &impl Clock,
+    file: &mut R,
+    room: &mut [u8],
+    have: usize,
+) -> io::Result<usize>
     requires { have < length room.old }
     ensures { PieceIn room.new have result × (take have room.new ≡ take have room.old) }
 {
     for _ in 0..u64::MAX {
         match file.read(&mut room[have..]) {
-            Ok(0) => return Piece::End,
-            Ok(count) => return Piece::Bytes(count),
-            Err(error) => {
-                if !wait_if_put_off(clock, &error) {
-                    return Piece::Failure(error);
-                }
-            }
+            Err(error) => wait_if_put_off(clock, error)?,
+            read => return read,
         }
     }
-    Piece::Failure(put_off_too_often())
+    Err(put_off_too_often())
 }
 
-// The text at the last piece, which had no bytes.
-fn text_at_end(piece: Piece, have: usize) -> Text
-    ensures { result ≡ text_at_end piece have }
-{
-    match piece {
-        Piece::Bytes(_) => Text::Length(have),
-        Piece::End => Text::Length(have),
-        Piece::Failure(error) => Text::Unread(error),
-    }
-}
-
-// Reads until the file ends or the room is full.
-pub fn read_text<R: Read>(clock: &impl Clock, file: &mut R, room: &mut [u8]) -> Text
+// Reads until the file ends or the room is full, and gives the length of what was read.
+pub fn read_text<R: Read>(clock: &impl Clock, file: &mut R, room: &mut [u8]) -> io::Result<usize>
     ensures { TextIn room.new result }
 {
     let mut have = 0;
     while have < room.len() {
-        let piece = read_piece(clock, file, room, have);
-        let Piece::Bytes(count) = piece else {
-            return text_at_end(piece, have);
-        };
+        let count = read_piece(clock, file, room, have)?;
+        if count == 0 {
+            break;
+        }
         have += count;
     }
-    Text::Length(have)
+    Ok(have)
 }
 
 // Writes the bytes, and goes on after a write that took a part of them. Fewer than all are taken only if a write failed.
@@ -99,7 +74,7 @@ pub fn write_out<W: Write>(clock: &impl Clock, file: &mut W, bytes: &[u8]) -> Ta
             Ok(0) => return failed(done, io::Error::from(io::ErrorKind::WriteZero)),
             Ok(count) => done += count,
             Err(error) => {
-                if !wait_if_put_off(clock, &error) {
+                if let Err(error) = wait_if_put_off(clock, error) {
                     return failed(done, error);
                 }
             }

@@ -8,14 +8,14 @@ fn pause(clock: &impl Clock) {
     thread::sleep(clock, Duration::from_millis(10));
 }
 
-// Whether the call that failed so was only put off; if it was, this has waited a little.
-pub(crate) fn wait_if_put_off(clock: &impl Clock, error: &io::Error) -> bool {
+// Waits a little if the call that failed so was only put off; if it was not, hands its error on.
+pub(crate) fn wait_if_put_off(clock: &impl Clock, error: io::Error) -> io::Result<()> {
     let kind = error.kind();
     if kind != ErrorKind::WouldBlock && kind != ErrorKind::Interrupted {
-        return false;
+        return Err(error);
     }
     pause(clock);
-    true
+    Ok(())
 }
 
 // The reason that stands for a call that was put off each time that it was made.
