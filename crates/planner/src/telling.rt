@@ -1,5 +1,6 @@
 // What the program says beside its answers: the one line of a map that cannot be used, on standard output, and on standard error what failed.
-use crate::System;
+use crate::{End, System, Turn};
+use floor::Refusal;
 use recordlayout::RECORD_SIZE;
 use std::fmt::InlineText;
 use std::time::Clock;
@@ -44,7 +45,7 @@ pub(crate) fn tell_failure<R: Clock>(
 }
 
 // 01: a broken last record gets no answer.
-pub(crate) fn tell_broken<R: Clock>(system: &System<'_, R>, kept: usize) {
+fn tell_broken<R: Clock>(system: &System<'_, R>, kept: usize) {
     if kept == 0 {
         return;
     }
@@ -52,6 +53,16 @@ pub(crate) fn tell_broken<R: Clock>(system: &System<'_, R>, kept: usize) {
         "planner: no answer to the last {kept} bytes, which are no whole record\n"
     ));
     say(system, line.as_str());
+}
+
+// What was kept when the input ended has no answer.
+pub(crate) fn tell_end<R: Clock>(system: &System<'_, R>, turn: Turn) {
+    match turn.end {
+        Some(End::Input) => tell_broken(system, turn.kept),
+        Some(End::Unread(error)) => tell_failure(system, "reading questions", turn.gone, error),
+        Some(End::Unwritten(error)) => tell_failure(system, "writing answers", turn.gone, error),
+        None => {}
+    }
 }
 
 // The line about the map, on standard output.
@@ -67,7 +78,7 @@ pub(crate) fn print_missing<R: Clock>(system: &System<'_, R>) {
     print(system, "map missing\n");
 }
 
-pub(crate) fn print_refused<R: Clock>(system: &System<'_, R>, number: u32, place: usize) {
-    let line = InlineText::<100>::of(format_args!("map refused {number} at {place}\n"));
+pub(crate) fn print_refused<R: Clock>(system: &System<'_, R>, refusal: Refusal) {
+    let line = InlineText::<100>::of(format_args!("map {refusal}\n"));
     print(system, line.as_str());
 }

@@ -1,14 +1,10 @@
--- What was kept stands before the piece that was read, and both are answered; if no bytes came, what was kept stays.
+-- What was kept stands before the piece that was read, and both are answered.
 use Rattle.std.proofs.Common.{arith}
-use Rattle.planner.proofs.Pieces.{some_piece, no_bytes}
+use Rattle.std.specs.Prelude.{◌≢◌}
+use Rattle.planner.proofs.Pieces.{some_piece}
 use Rattle.planner.proofs.take_turn.Goals as goal
 
-pub returns-in_default : goal.returns-in_default
-returns-in_default g c =
-    rw c.end_turn.ensures
-    (no_bytes c.args.buffer.now c.args.kept c.args.gone c.read_piece-piece.ensures.1 c.requires.0 (omega (arith, c.ranges.gone)))
-
-pub returns : goal.returns
-returns g c =
-    some_piece c.args.buffer.now c.read_piece-piece.new.room c.args.kept c.in-Bytes.arrived
-    c.in-Bytes.ensures.1 c.in-Bytes.ensures.0.0 c.in-Bytes.ensures.0.1 c.answer_piece.ensures
+pub returns-in-Ok : goal.returns-in-Ok
+returns-in-Ok g c =
+    let some : c.in-Ok.arrived ≢ 0 = c.in-Ok.arrived-test.1 in
+    some_piece c.args.buffer.now c.read_piece.new.room c.args.kept c.in-Ok.arrived c.read_piece.ensures.1 (omega arith) c.in-Ok.ensures.0 c.answer_piece.ensures
