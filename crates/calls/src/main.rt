@@ -37,37 +37,38 @@
 // they go there, more given than a room's length, and an input that ends inside a call end the program.
 #![tactic(auto)]
 
+ghost use Rattle.std.specs.Prelude.{◌<◌, ◌^◌};
+
 mod replies; // replies.rt: how a reply goes out
 mod wire; // wire.rt: numbers in bytes, rooms filled, and pieces
 
-ghost use Rattle.std.specs.Prelude.{◌≤◌};
-
 use answering::AnswerNumbers;
 use astar::rooms::fradnumber_astar;
-use claims::RouteVerdict;
+use claims::FaultAt;
 use claims::routes::{check_route, fradnumber_check_route};
 use claims::tables::fradnumber_check_table;
 use desk::{answer_arrived, answer_records, keep_tail};
-use floor::Floor;
-use maptext::{
-    Read, ReadNumbers, WrittenNumbers, fradnumber_judge_map, fradnumber_read_map,
-    fradnumber_write_map,
-};
+use floor::{Floor, Refusal, WrittenNumbers};
+use maptext::{ReadNumbers, fradnumber_judge_map, fradnumber_read_map, fradnumber_write_map};
 use mapuse::use_map;
 use recordlayout::RECORD_SIZE;
-use recordlayout::fields::record_at;
-use replies::{begun, is_sent, send_bytes, send_numbers};
-use routelog::{EntryNumbers, EntryWrittenNumbers, fradnumber_read_entry, fradnumber_write_entry};
+use replies::Reply;
+use routelog::{EntryNumbers, fradnumber_read_entry, fradnumber_write_entry};
 use search::rooms::fradnumber_search;
 use std::env::{Env, FillError};
-use std::io::{Stdin, Stdout};
-use wire::{PIECE, fill_bytes, fill_numbers, put_bytes, short};
+use std::io;
+use std::io::{ErrorKind, Stdin, Stdout};
+use wire::{PIECE, Room, filled_bytes, filled_numbers, read_numbers, short};
 
 // The longest room of cells on the usual stack of 8 MiB: a floor of 1,024 by 64, its text, and some more. The work room has twice as many entries.
 const CELLS: usize = 66000;
 
+const PLACES: usize = 2 * CELLS;
+
 // The longest room of cells on a larger stack: the greatest floor, its text, and some more.
 const HALL: usize = 1050000;
+
+const HALL_PLACES: usize = 2 * HALL;
 
 // How many numbers a reply begins with.
 const NUMBERS: usize = 8;
@@ -89,13 +90,6 @@ struct Question {
     limit: u32,
 }
 
-// What the head says of one room.
-#[derive(Clone, Copy)]
-struct Room {
-    length: usize,
-    given: usize,
-}
-
 // Where the calls come from, and where the replies go.
 #[derive(Clone, Copy)]
 struct Streams {
@@ -103,77 +97,111 @@ struct Streams {
     output: Stdout,
 }
 
-// How many entries each room is given.
+// The calls by name: the table above.
 #[derive(Clone, Copy)]
-struct Given {
-    map: usize,
-    costs: usize,
-    work: usize,
-    route: usize,
-    text: usize,
+enum Call {
+    Search,
+    CheckRoute,
+    CheckTable,
+    ReadMap,
+    WriteMap,
+    JudgeMap,
+    CheckRouteInHalves,
+    UseMap,
+    AnswerRecords,
+    AnswerArrived,
+    KeepTail,
+    ReadEntry,
+    WriteEntry,
+    Astar,
 }
 
-// Where the input ends before or inside it, all is zeros, and no entry has the number 0.
-fn read_question(input: Stdin) -> Question {
-    let mut bytes = [0u8; 32];
-    let mut head = [0u32; 8];
-    fill_numbers(input, true, &mut head, 8, &mut bytes);
-    Question {
-        what: head[0],
-        form: head[1],
-        width: head[2],
-        height: head[3],
-        ways: head[4],
-        start: head[5],
-        goal: head[6],
-        limit: head[7],
-    }
-}
+// The libraries have no such call.
+#[derive(Clone, Copy)]
+struct NoSuchCall;
 
-fn long(n: u32) -> usize {
-    n as usize
-}
+impl TryFrom<u32> for Call {
+    type Error = NoSuchCall;
 
-// Where a room is longer than the program's, or the input ends before, it reads as a room that more is given for than it holds, which ends the program.
-fn read_room(input: Stdin, most: usize) -> Room
-    ensures { result.length ≤ most }
-{
-    let mut bytes = [0u8; 8];
-    let mut head = [0u32; 2];
-    if fill_numbers(input, true, &mut head, 2, &mut bytes) {
-        let length = long(head[0]);
-        let given = long(head[1]);
-        if length <= most {
-            return Room { length, given };
+    fn try_from(what: u32) -> Result<Call, NoSuchCall> {
+        match what {
+            1 => Ok(Call::Search),
+            2 => Ok(Call::CheckRoute),
+            3 => Ok(Call::CheckTable),
+            4 => Ok(Call::ReadMap),
+            5 => Ok(Call::WriteMap),
+            6 => Ok(Call::JudgeMap),
+            7 => Ok(Call::CheckRouteInHalves),
+            8 => Ok(Call::UseMap),
+            9 => Ok(Call::AnswerRecords),
+            10 => Ok(Call::AnswerArrived),
+            11 => Ok(Call::KeepTail),
+            12 => Ok(Call::ReadEntry),
+            13 => Ok(Call::WriteEntry),
+            14 => Ok(Call::Astar),
+            _ => Err(NoSuchCall),
         }
     }
-    Room {
-        length: 0,
-        given: 1,
-    }
+}
+
+fn read_question(input: Stdin) -> io::Result<Question> {
+    let mut head = [0u32; 8];
+    read_numbers(input, &mut head, &mut [0u8; 32])?;
+    let [what, form, width, height, ways, start, goal, limit] = head;
+    Ok(Question {
+        what,
+        form,
+        width,
+        height,
+        ways,
+        start,
+        goal,
+        limit,
+    })
+}
+
+fn read_room(input: Stdin) -> io::Result<Room> {
+    let mut head = [0u32; 2];
+    read_numbers(input, &mut head, &mut [0u8; 8])?;
+    let [length, given] = head;
+    Ok(Room {
+        length: length as usize,
+        given: given as usize,
+    })
 }
 
 // ---- answers as eight numbers
 
-fn of_route(verdict: RouteVerdict) -> [u32; NUMBERS] {
+fn refused(refusal: Refusal) -> [u32; NUMBERS] {
+    let place = short(refusal.place() as u64);
+    [0, refusal.number(), place, 0, 0, 0, 0, 0]
+}
+
+fn of_route(verdict: Result<Result<u32, FaultAt>, Refusal>) -> [u32; NUMBERS] {
     match verdict {
-        RouteVerdict::Refused(number, place) => [0, number, short(place as u64), 0, 0, 0, 0, 0],
-        RouteVerdict::Holds(cost) => [1, 0, 0, cost, 0, 0, 0, 0],
-        RouteVerdict::Fault(number, place) => [2, number, short(place as u64), 0, 0, 0, 0, 0],
+        Err(refusal) => refused(refusal),
+        Ok(Ok(cost)) => [1, 0, 0, cost, 0, 0, 0, 0],
+        Ok(Err(FaultAt(fault, place))) => [2, fault as u32, short(place as u64), 0, 0, 0, 0, 0],
     }
+}
+
+// The low half and the high half.
+fn halves(n: u64) -> (u32, u32) {
+    (short(n % 4294967296), short(n / 4294967296))
+}
+
+fn of_halves(n: u64) -> [u32; NUMBERS] {
+    let (low, high) = halves(n);
+    [low, high, 0, 0, 0, 0, 0, 0]
 }
 
 // 40 stands in place of a refusal where a table breaks the rule.
 fn of_table(n: u64) -> [u32; NUMBERS] {
-    let number = short(n / 4294967296);
-    let place = short(n % 4294967296);
-    if number == 0 {
-        return [1, 0, 0, 0, 0, 0, 0, 0];
+    match halves(n) {
+        (_, 0) => [1, 0, 0, 0, 0, 0, 0, 0],
+        (cell, 40) => [2, 0, cell, 0, 0, 0, 0, 0],
+        (place, refusal) => [0, refusal, place, 0, 0, 0, 0, 0],
     }
-    if number == 40 {
-        return [2, 0, place, 0, 0, 0, 0, 0];
-    }
-    [0, number, place, 0, 0, 0, 0, 0]
 }
 
 fn kind_of(refusal: u64) -> u32 {
@@ -206,10 +234,10 @@ fn of_written(n: WrittenNumbers) -> [u32; NUMBERS] {
     ]
 }
 
-fn of_used(read: Read) -> [u32; NUMBERS] {
+fn of_used(read: Result<Floor, Refusal>) -> [u32; NUMBERS] {
     match read {
-        Read::Refused(number, place) => [0, number, short(place as u64), 0, 0, 0, 0, 0],
-        Read::Map(f) => [
+        Err(refusal) => refused(refusal),
+        Ok(f) => [
             1,
             0,
             0,
@@ -220,19 +248,6 @@ fn of_used(read: Read) -> [u32; NUMBERS] {
             0,
         ],
     }
-}
-
-fn of_halves(n: u64) -> [u32; NUMBERS] {
-    [
-        short(n % 4294967296),
-        short(n / 4294967296),
-        0,
-        0,
-        0,
-        0,
-        0,
-        0,
-    ]
 }
 
 fn of_answer(n: AnswerNumbers) -> [u32; NUMBERS] {
@@ -269,149 +284,69 @@ fn of_entry(n: EntryNumbers) -> [u32; NUMBERS] {
     ]
 }
 
-fn of_entry_written(n: EntryWrittenNumbers) -> [u32; NUMBERS] {
-    [
-        kind_of(n.refusal),
-        short(n.refusal),
-        short(n.place),
-        short(n.length),
-        0,
-        0,
-        0,
-        0,
-    ]
-}
-
-// Stands in place of a kind where the libraries have no such entry.
-const NO_ENTRY: u32 = 4294967295;
-
 // ---- the route log
 
-// The two records of an entry.
-const RECORDS: usize = 2 * RECORD_SIZE;
-
-fn read_entry(rest: &[u8], route: &mut [u8], records: &mut [u8]) -> [u32; NUMBERS] {
-    if records.len() < RECORDS {
-        return [NO_ENTRY, 0, 0, 0, 0, 0, 0, 0];
-    }
+fn read_entry(rest: &[u8], route: &mut [u8], records: &mut [u8]) -> Option<[u32; NUMBERS]> {
+    let (question, others) = records.split_first_chunk_mut::<RECORD_SIZE>()?;
+    let answer = others.first_chunk_mut::<RECORD_SIZE>()?;
     let read = fradnumber_read_entry(rest, route);
-    let at_answer = put_bytes(records, 0, &read.question);
-    put_bytes(records, at_answer, &read.answer);
-    of_entry(read)
+    let asked = read.question;
+    let answered = read.answer;
+    *question = asked;
+    *answer = answered;
+    Some(of_entry(read))
 }
 
-fn write_entry(records: &[u8], directions: &[u8], room: &mut [u8]) -> [u32; NUMBERS] {
-    if records.len() < RECORDS {
-        return [NO_ENTRY, 0, 0, 0, 0, 0, 0, 0];
-    }
-    let question = record_at(records, 0);
-    let answer = record_at(records, RECORD_SIZE);
-    of_entry_written(fradnumber_write_entry(&question, &answer, directions, room))
+fn write_entry(records: &[u8], directions: &[u8], room: &mut [u8]) -> Option<[u32; NUMBERS]> {
+    let (question, others) = records.split_first_chunk::<RECORD_SIZE>()?;
+    let answer = others.first_chunk::<RECORD_SIZE>()?;
+    Some(of_written(fradnumber_write_entry(question, answer, directions, room)))
 }
 
 // ---- one call after the other
 
-// Calls the entry on rooms of exactly the lengths asked for. Rooms that could not be filled, and what no entry has the number of, go one way with the rest up
-// to the reply, which is not written: each way out of a function that was lent the rooms is proved by itself.
+// Calls the entry on rooms of exactly the lengths asked for. None for an unknown call, and where the map room has no place for two records that go there.
 fn ask(
-    filled: bool,
     question: Question,
     map: &mut [u8],
     costs: &mut [u32],
     work: &mut [u32],
     route: &mut [u8],
     text: &mut [u8],
-) -> [u32; NUMBERS] {
-    if !filled {
-        return [NO_ENTRY, 0, 0, 0, 0, 0, 0, 0];
-    }
-    let w = question.width;
-    let h = question.height;
-    let ways = question.ways;
-    let floor = Floor {
-        width: w as usize,
-        height: h as usize,
-        ways: ways as usize,
-    };
-    let start = question.start;
-    let goal = question.goal;
-    let limit = question.limit;
-    let what = question.what;
-    match what {
-        1 => of_answer(fradnumber_search(w, h, ways, map, start, goal, limit, costs, work, route)),
-        2 => of_route(check_route(floor, map, start, goal, limit, route)),
-        3 => of_table(fradnumber_check_table(w, h, ways, map, start, costs)),
-        4 => of_read(fradnumber_read_map(text, map)),
-        5 => of_written(fradnumber_write_map(w, h, map, text)),
-        6 => of_read(fradnumber_judge_map(text, map.len())),
-        7 => of_halves(fradnumber_check_route(w, h, ways, map, start, goal, limit, route)),
-        8 => of_used(use_map(text, map)),
-        9 => of_halves(answer_records(floor, map, text, costs, work, route) as u64),
-        10 => of_halves(answer_arrived(floor, map, text, long(limit), costs, work, route) as u64),
-        11 => of_halves(keep_tail(text, long(start), long(goal)) as u64),
-        12 => read_entry(text, route, map),
-        13 => write_entry(map, route, text),
-        14 => of_answer(fradnumber_astar(w, h, ways, map, start, goal, costs, work, route)),
-        _ => [NO_ENTRY, 0, 0, 0, 0, 0, 0, 0],
-    }
+) -> Option<[u32; NUMBERS]> {
+    let (w, h, ways) = (question.width, question.height, question.ways);
+    let (start, goal, limit) = (question.start, question.goal, question.limit);
+    let floor = Floor::of(w, h, ways);
+    Some(match Call::try_from(question.what).ok()? {
+        Call::Search => {
+            of_answer(fradnumber_search(w, h, ways, map, start, goal, limit, costs, work, route))
+        }
+        Call::CheckRoute => of_route(check_route(floor, map, start, goal, limit, route)),
+        Call::CheckTable => of_table(fradnumber_check_table(w, h, ways, map, start, costs)),
+        Call::ReadMap => of_read(fradnumber_read_map(text, map)),
+        Call::WriteMap => of_written(fradnumber_write_map(w, h, map, text)),
+        Call::JudgeMap => of_read(fradnumber_judge_map(text, map.len())),
+        Call::CheckRouteInHalves => {
+            of_halves(fradnumber_check_route(w, h, ways, map, start, goal, limit, route))
+        }
+        Call::UseMap => of_used(use_map(text, map)),
+        Call::AnswerRecords => of_halves(
+            answer_records(floor, map, text, costs, work, route) as u64,
+        ),
+        Call::AnswerArrived => {
+            of_halves(answer_arrived(floor, map, text, limit as usize, costs, work, route) as u64)
+        }
+        Call::KeepTail => of_halves(keep_tail(text, start as usize, goal as usize) as u64),
+        Call::ReadEntry => return read_entry(text, route, map),
+        Call::WriteEntry => return write_entry(map, route, text),
+        Call::Astar => of_answer(fradnumber_astar(
+            w, h, ways, map, start, goal, costs, work, route,
+        )),
+    })
 }
 
-// False if there is nothing to reply, and if the reply cannot be written.
-fn reply(
-    output: Stdout,
-    form: u32,
-    numbers: [u32; NUMBERS],
-    map: &[u8],
-    costs: &[u32],
-    work: &[u32],
-    route: &[u8],
-    text: &[u8],
-    wire: &mut [u8],
-) -> bool {
-    if numbers[0] == NO_ENTRY {
-        return false;
-    }
-    let sent = send_numbers(begun(output, form != 0), &numbers, wire);
-    let sent = send_bytes(sent, map);
-    let sent = send_numbers(sent, costs, wire);
-    let sent = send_numbers(sent, work, wire);
-    let sent = send_bytes(sent, route);
-    is_sent(send_bytes(sent, text))
-}
-
-// Fills the rooms, calls the entry and replies. False if the call cannot be answered.
-fn answer_call(
-    streams: Streams,
-    question: Question,
-    given: Given,
-    map: &mut [u8],
-    costs: &mut [u32],
-    work: &mut [u32],
-    route: &mut [u8],
-    text: &mut [u8],
-    wire: &mut [u8],
-) -> bool {
-    let input = streams.input;
-    let fine = fill_bytes(input, true, map, given.map);
-    let fine = fill_numbers(input, fine, costs, given.costs, wire);
-    let fine = fill_numbers(input, fine, work, given.work, wire);
-    let fine = fill_bytes(input, fine, route, given.route);
-    let filled = fill_bytes(input, fine, text, given.text);
-    let numbers = ask(filled, question, map, costs, work, route, text);
-    reply(
-        streams.output,
-        question.form,
-        numbers,
-        map,
-        costs,
-        work,
-        route,
-        text,
-        wire,
-    )
-}
-
-// One call, with the parts of the rooms that it asks for. False at the end of the input, and where the call cannot be answered.
+// Reads a call, fills the parts of the rooms that it asks for, calls the entry and replies. An error at the end of the input, where the call cannot be
+// answered, and where the reply cannot be written.
 fn next_call(
     streams: Streams,
     map: &mut [u8],
@@ -420,40 +355,31 @@ fn next_call(
     route: &mut [u8],
     text: &mut [u8],
     wire: &mut [u8],
-) -> bool {
+) -> io::Result<()> {
     let input = streams.input;
-    let question = read_question(input);
-    let map_room = read_room(input, map.len());
-    let costs_room = read_room(input, costs.len());
-    let work_room = read_room(input, work.len());
-    let route_room = read_room(input, route.len());
-    let text_room = read_room(input, text.len());
-    let given = Given {
-        map: map_room.given,
-        costs: costs_room.given,
-        work: work_room.given,
-        route: route_room.given,
-        text: text_room.given,
-    };
-    let map_length = map_room.length;
-    let costs_length = costs_room.length;
-    let work_length = work_room.length;
-    let route_length = route_room.length;
-    let text_length = text_room.length;
-    answer_call(
-        streams,
-        question,
-        given,
-        &mut map[0..map_length],
-        &mut costs[0..costs_length],
-        &mut work[0..work_length],
-        &mut route[0..route_length],
-        &mut text[0..text_length],
-        wire,
-    )
+    let question = read_question(input)?;
+    let map_room = read_room(input)?;
+    let costs_room = read_room(input)?;
+    let work_room = read_room(input)?;
+    let route_room = read_room(input)?;
+    let text_room = read_room(input)?;
+    let map = filled_bytes(input, map, map_room)?;
+    let costs = filled_numbers(input, costs, costs_room, wire)?;
+    let work = filled_numbers(input, work, work_room, wire)?;
+    let route = filled_bytes(input, route, route_room)?;
+    let text = filled_bytes(input, text, text_room)?;
+    let numbers = ask(question, map, costs, work, route, text).ok_or(ErrorKind::InvalidInput)?;
+    let mut reply = Reply::begun(streams.output, question.form != 0);
+    reply.send_numbers(&numbers, wire)?;
+    reply.send_bytes(map)?;
+    reply.send_numbers(costs, wire)?;
+    reply.send_numbers(work, wire)?;
+    reply.send_bytes(route)?;
+    reply.send_bytes(text)?;
+    reply.end(wire)
 }
 
-// A proved loop has to end, and nothing says that the input does: it counts down from a number that no run uses up.
+// A proved loop has to end, and nothing says that the input does: it counts up to a number that no run reaches.
 fn answer_calls(
     streams: Streams,
     map: &mut [u8],
@@ -463,49 +389,28 @@ fn answer_calls(
     text: &mut [u8],
     wire: &mut [u8],
 ) {
-    let mut turns = u64::MAX;
-    while turns > 0 && next_call(streams, map, costs, work, route, text, wire) {
-        turns -= 1;
-    }
-}
-
-fn answer_in_usual_rooms(streams: Streams) {
-    let mut map = [0u8; CELLS];
-    let mut costs = [0u32; CELLS];
-    let mut work = [0u32; 2 * CELLS];
-    let mut route = [0u8; CELLS];
-    let mut text = [0u8; CELLS];
-    let mut wire = [0u8; WIRE];
-    answer_calls(
-        streams, &mut map, &mut costs, &mut work, &mut route, &mut text, &mut wire,
-    );
-}
-
-// These rooms are longer than the usual stack, so they must not become part of another function's frame: the compiler puts a function that is called once in
-// line, and never one that calls itself. That is all that the call here is for. Where it is made, it answers all calls, and none are left after it.
-fn answer_in_hall_rooms(streams: Streams, again: usize) {
-    if 0 < again {
-        answer_in_hall_rooms(streams, again - 1);
-    }
-    let mut map = [0u8; HALL];
-    let mut costs = [0u32; HALL];
-    let mut work = [0u32; 2 * HALL];
-    let mut route = [0u8; HALL];
-    let mut text = [0u8; HALL];
-    let mut wire = [0u8; WIRE];
-    answer_calls(
-        streams, &mut map, &mut costs, &mut work, &mut route, &mut text, &mut wire,
-    );
-}
-
-// How many words the program was started with, its name among them.
-fn word_count(rt: &impl Env) -> usize {
-    for place in 0..usize::MAX {
-        if matches!(rt.arg(place, &mut []), Err(FillError::NotPresent)) {
-            return place;
+    for _ in 0..u64::MAX {
+        if next_call(streams, map, costs, work, route, text, wire).is_err() {
+            return;
         }
     }
-    usize::MAX
+}
+
+// Rooms of so many cells, and of so many places to work in, on the stack. The greater ones are longer than the usual stack, so they must not become part of
+// another function's frame: the compiler puts a function that is called once in line, unless it is told never to.
+#[inline(never)]
+fn answer_in_rooms<const ROOM: usize, const WORK: usize>(streams: Streams)
+    requires { (ROOM < 2 ^ 32) × (WORK < 2 ^ 32) }
+{
+    let mut map = [0u8; ROOM];
+    let mut costs = [0u32; ROOM];
+    let mut work = [0u32; WORK];
+    let mut route = [0u8; ROOM];
+    let mut text = [0u8; ROOM];
+    let mut wire = [0u8; WIRE];
+    answer_calls(
+        streams, &mut map, &mut costs, &mut work, &mut route, &mut text, &mut wire,
+    );
 }
 
 fn main(rt: HostRuntime) {
@@ -513,10 +418,9 @@ fn main(rt: HostRuntime) {
         input: rt.stdin(),
         output: rt.stdout(),
     };
-    let words = word_count(&rt);
-    if words < 2 {
-        answer_in_usual_rooms(streams);
+    if matches!(rt.arg(1, &mut []), Err(FillError::NotPresent)) {
+        answer_in_rooms::<CELLS, PLACES>(streams);
     } else {
-        answer_in_hall_rooms(streams, words - 2);
+        answer_in_rooms::<HALL, HALL_PLACES>(streams);
     }
 }
