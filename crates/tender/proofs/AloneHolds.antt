@@ -8,7 +8,7 @@ use native.Mathlib.Omega.{arith}
 use lib.ListN.{length, take, drop, length-take, length-drop}
 use lib.Seq.{take_all, drop-length}
 use Rattle.floor.specs.declared.Floor.{Floor}
-use Rattle.answering.specs.declared.Answer.{Answer}
+use Rattle.answering.specs.Answer.{Answer}
 use Rattle.answering.specs.Rooms.{Rooms}
 use Rattle.recordlayout.specs.Record.{record_size, question_in, ways_in, ends_in_zeros, record_of}
 use Rattle.desk.specs.Desk.{with_ways, Asked, no_zeros, searched, Answered, whole_records, record_at, IsAnswered}

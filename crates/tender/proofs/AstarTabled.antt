@@ -4,7 +4,7 @@ use mathlib.Core.Logic.Iff
 use mathlib.Core.Logic.{◌↔◌, ◌≢◌}
 use mathlib.Core.Bool.{not}
 use mathlib.Core.List.{List, [], ◌++◌}
-use Prim.Native.Nat.{ℕ, ◌*◌, ◌≤◌, ◌<◌}
+use Prim.Native.Nat.{ℕ, ◌≤◌, ◌<◌}
 use native.Mathlib.Omega.{arith}
 use lib.Dec.{T, eqb}
 use lib.ListN.{length, get_or, take, drop}
@@ -22,7 +22,7 @@ use Rattle.settling.specs.Aimed.{is_settled, settled_count, settled_costs}
 use Rattle.settling.proofs.OneList.{reached_value}
 use Rattle.settling.proofs.AimedPlain.{length_settled, left_settled, left_unsettled, aimed_found, aimed_none, aimed_first, aimed_cost, aimed_count, aimed_never, aimed_empty, settled_words}
 use Rattle.floor.specs.declared.Floor.{Floor}
-use Rattle.floor.specs.declared.Screen.TheVariants.{Passed}
+use Rattle.floor.specs.Screen.{Passed}
 use Rattle.floor.specs.Place.{cells}
 use Rattle.floor.specs.Step.{least_step, greatest_step, graph}
 use Rattle.floor.specs.Length.{surd}
@@ -30,7 +30,7 @@ use Rattle.floor.specs.Estimate.{estimate}
 use Rattle.floor.specs.Refusal.{HasPassed, screen, question_lines}
 use Rattle.floor.proofs.Laws.{lawful}
 use Rattle.floor.proofs.Questions.{question_passed, start_inside, goal_inside}
-use Rattle.answering.specs.declared.Answer.{Answer}
+use Rattle.answering.specs.Answer.{Answer}
 use Rattle.answering.specs.declared.AnswerNumbers.{AnswerNumbers}
 use Rattle.answering.specs.Answers.{numbers_of}
 use Rattle.answering.specs.Rooms.{Rooms, lent_lines}

@@ -8,10 +8,10 @@ use Rattle.floor.specs.Length.{plus, step_length, length_of}
 use Rattle.floor.proofs.Laws.{step_costs, there_and_back, step_between, least_cost_bound}
 use Rattle.floor.proofs.Lengths.{length_step, cost_parts}
 use Rattle.floor.proofs.Questions.{question_passed}
-use Rattle.answering.specs.declared.Answer.{Answer}
+use Rattle.answering.specs.Answer.{Answer}
 use Rattle.answering.specs.Answers.{numbers_of}
 use Rattle.answering.specs.Rooms.{Rooms}
-use Rattle.answering.specs.Question.{Question}
+use Rattle.answering.specs.declared.Question.{Question}
 use Rattle.search.specs.Search.{Searched, refused, passed}
 use Rattle.search.proofs.Lending.{search_question}
 use Rattle.astar.specs.Astar.{Aimed}

@@ -13,8 +13,7 @@ use Rattle.settling.specs.Answer.{answer_of, costs_left}
 use Rattle.paths.proofs.Bools.{T_and}
 use Rattle.paths.proofs.Below.{every_at}
 use Rattle.paths.proofs.Meaning.{rule_is_right}
-use Rattle.floor.specs.declared.Screen.{Screen}
-use Rattle.floor.specs.declared.Screen.TheVariants.{Passed, Refused}
+use Rattle.floor.specs.Screen.{Screen, Passed, Refused}
 use Rattle.floor.specs.Place.{cells, is_side, has_sides, on_map, is_open}
 use Rattle.floor.specs.Step.{is_direction, target, step_weight, step_cost, cuts_corner, entering, step_of, allowed, graph}
 use Rattle.floor.specs.Length.{step_length, length_of}

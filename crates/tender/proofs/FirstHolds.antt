@@ -11,35 +11,30 @@ use lib.ListN.{length, get_or}
 use Rattle.paths.specs.Graph.{MARK}
 use Rattle.settling.specs.Answer.{Kind, Row}
 use Rattle.floor.specs.declared.Floor.{Floor}
-use Rattle.floor.specs.declared.Screen.{Screen}
-use Rattle.floor.specs.declared.Screen.TheVariants.{Passed, Refused}
+use Rattle.std.specs.Prelude.{Result}
+use Rattle.floor.specs.declared.refusals.Refusal.{Refusal}
+use Rattle.floor.specs.Screen.{Screen, Passed, Refused, screened}
 use Rattle.floor.specs.declared.RouteLength.{RouteLength}
 use Rattle.floor.specs.Length.{route_length}
 use Rattle.floor.specs.Refusal.{Line, line, screen, map_lines, floor_lines, question_lines}
 use Rattle.floor.specs.LowestLine.{IsLowestLine}
-use Rattle.floor.specs.Numbers.{Numbers, refused, fault, gives, after_screen, numbers_of}
+use Rattle.floor.specs.Numbers.{Numbers, refused, fault, gives, after_screen, numbers_of, written_as}
 use Rattle.floor.proofs.Lines.{rising, above, below, lowest_line, refused_lines, by_lines}
-use Rattle.maptext.specs.declared.Written.{Written}
-use Rattle.maptext.specs.Text as text
 use Rattle.maptext.specs.Text.{text_of, write_lines, text_left, IsWritten}
-use Rattle.maptext.proofs.Texts.{written_of, written_is}
 use Rattle.maptext.proofs.Calls.{judge_call_refused, read_call_same, write_call_refused, write_call_same}
-use Rattle.claims.specs.Route as route
 use Rattle.claims.specs.Route.{Claim, claim_lines, route_verdict, packed}
 use Rattle.claims.specs.Faults.{step_faults, end_faults, stands_at, IsFault, of_step, of_end}
-use Rattle.claims.specs.Table as table
 use Rattle.claims.specs.Table.{table_lines, table_verdict, as_fault}
-use Rattle.claims.proofs.Claims.{route_of, route_back, table_of, table_back, route_refused_exactly, table_refused_exactly}
+use Rattle.claims.proofs.Claims.{route_refused_exactly, table_refused_exactly}
 use Rattle.claims.proofs.Faults.{fault_exactly}
 use Rattle.claims.proofs.Collecting.{told_exactly}
 use Rattle.claims.proofs.TableCalls.{other_refused}
-use Rattle.answering.specs.declared.Answer.{Answer}
-use Rattle.answering.specs.declared.Answer.TheVariants.{Found, None, Stopped}
+use Rattle.answering.specs.Answer.{Answer, Found, None, Stopped}
 use Rattle.answering.specs.declared.AnswerNumbers.{AnswerNumbers}
 use Rattle.answering.specs.Answers as answer
 use Rattle.answering.specs.Answers.{row_of, answered}
 use Rattle.answering.specs.Rooms.{Rooms, lent_lines}
-use Rattle.answering.specs.Question.{Question}
+use Rattle.answering.specs.declared.Question.{Question}
 use Rattle.search.specs.Search.{search_lines, Searched}
 use Rattle.search.proofs.Promise.{by_table, by_refusal}
 use Rattle.astar.specs.Astar.{aimed_row, Aimed}
@@ -89,27 +84,24 @@ screen_back : (vs : List ℕ) (s : Screen) → screen_in (after_screen s (gives 
 screen_back vs Passed = refl
 screen_back vs (Refused n p) = refl
 
-screen_refuses : (ls : List Line) (x : Screen) → x ≡ screen ls → T (rising 0 ls) → (n p : ℕ) → (numbers_of x ≡ refused n p) ↔ IsLowestLine ls n p
-screen_refuses ls x e r = by_lines (λ s. after_screen s (gives [])) screen_in (screen_back []) ls (ap numbers_of e) r
+screen_refuses : (ls : List Line) → T (rising 0 ls) → (x : Screen) → x ≡ screen ls → (n p : ℕ) → (numbers_of x ≡ refused n p) ↔ IsLowestLine ls n p
+screen_refuses ls r x e = by_lines (λ s. after_screen s (gives [])) screen_in (screen_back []) ls (ap numbers_of e) r
 
-writer_refuses : (f : Floor) (m room : List ℕ) (w : Written) (room' : List ℕ) → IsWritten f m room w room'
-    → Refuses (IsLowestLine (write_lines f m (length room))) (λ n p. w ≡ Written.Refused n p) (room' ≡ room)
+writer_refuses : (f : Floor) (m room : List ℕ) (w : Result ℕ Refusal) (room' : List ℕ) → IsWritten f m room w room'
+    → Refuses (IsLowestLine (write_lines f m (length room))) (λ n p. written_as w ≡ refused n p) (room' ≡ room)
 writer_refuses f m room w room' x =
     let vs : List ℕ = length (text_of f.width f.height m) ∷ [] in
     record {
-      exactly = λ n p. Iff.trans
-          (λ e. ap text.numbers_of e, λ e. sym (written_is w) ∙ ap written_of e)
-          (by_lines (λ s. after_screen s (gives vs)) screen_in (screen_back vs) (write_lines f m (length room)) x.answers tt n p);
+      exactly = by_lines (λ s. after_screen s (gives vs)) screen_in (screen_back vs) (write_lines f m (length room)) x.answers tt;
       alters_nothing = λ n p e.
           x.leaves
           ∙ ap (text_left (text_of f.width f.height m) room)
-          (refused_lines (λ s. after_screen s (gives vs)) screen_in (screen_back vs) (write_lines f m (length room)) x.answers n p (ap text.numbers_of e));
+          (refused_lines (λ s. after_screen s (gives vs)) screen_in (screen_back vs) (write_lines f m (length room)) x.answers n p e);
     }
 
--- a verdict with the numbers of a refusal is that refusal
-verdict_refused : {A : Type 0} (numbers_of : A → Numbers) (of : Numbers → A) (back : (v : A) → of (numbers_of v) ≡ v) {v : A} {a : Numbers} (n p : ℕ)
-    → numbers_of v ≡ a → (v ≡ of (refused n p)) ↔ (a ≡ numbers_of (of (refused n p)))
-verdict_refused numbers_of of back {v} n p e = (λ k. sym e ∙ ap numbers_of k, λ k. sym (back v) ∙ ap of (e ∙ k) ∙ back (of (refused n p)))
+-- the numbers of a verdict are what is promised
+same_numbers : {a b c : Numbers} → a ≡ b → (a ≡ c) ↔ (b ≡ c)
+same_numbers e = (λ k. sym e ∙ k, λ k. e ∙ k)
 
 -- a question record: 13, or what the search refuses
 question_refuses : (f : Floor) (m question : List ℕ) (r : Rooms) (a : Answer) (r' : Rooms) → Asked f m question r a r'
@@ -231,16 +223,16 @@ first_condition = record {
   judge = judge_refuses;
   program_records = records_refuse;
   route_check = λ f m c v e n p.
-      Iff.trans (verdict_refused route.numbers_of route_of route_back n p e) (Iff.trans (route_refused_exactly f m c n p) (lowest_line (claim_lines f m c) 0 tt n p));
+      Iff.trans (same_numbers e) (Iff.trans (route_refused_exactly f m c n p) (lowest_line (claim_lines f m c) 0 tt n p));
   table_check = λ f m s t v e n p.
-      Iff.trans (verdict_refused table.numbers_of table_of table_back n p e) (Iff.trans (table_refused_exactly f m s t n p) (lowest_line (table_lines f m s t) 0 tt n p));
+      Iff.trans (same_numbers e) (Iff.trans (table_refused_exactly f m s t n p) (lowest_line (table_lines f m s t) 0 tt n p));
   writer = writer_refuses;
   reader = reader_refuses;
   program_map = program_refuses;
   program_question = question_refuses;
-  map_screen = λ f m x e. screen_refuses (map_lines f m) x e tt;
-  floor_screen = λ f m x e. screen_refuses (floor_lines f m) x e tt;
-  question_screen = λ f m s g x e. screen_refuses (question_lines f m s g) x e tt;
+  map_screen = λ f m x. screen_refuses (map_lines f m) tt (screened x);
+  floor_screen = λ f m x. screen_refuses (floor_lines f m) tt (screened x);
+  question_screen = λ f m s g x. screen_refuses (question_lines f m s g) tt (screened x);
   log_reader = λ rest room r room'. log_reader_refuses rest room room' r;
   log_reader_call = λ rest room x room'. log_reader_call_refuses rest room room' x;
   log_writer = λ e room w room'. log_writer_refuses e room room' w;

@@ -12,12 +12,12 @@ use Rattle.settling.specs.Answer.{Kind, Row, costs_left}
 use Rattle.paths.proofs.Meaning.{least_cost_route_short}
 use Rattle.settling.proofs.Outcomes.{none_exactly, stopped_exactly, none_is, stopped_is, found_first, length_left}
 use Rattle.floor.specs.declared.Floor.{Floor}
-use Rattle.floor.specs.declared.Screen.TheVariants.{Passed}
+use Rattle.floor.specs.Screen.{Passed}
 use Rattle.floor.specs.Place.{cells}
 use Rattle.floor.specs.Refusal.{screen}
-use Rattle.answering.specs.declared.Answer.{Answer}
+use Rattle.answering.specs.Answer.{Answer}
 use Rattle.answering.specs.Rooms.{Rooms, leaving}
-use Rattle.answering.specs.Question.{Question}
+use Rattle.answering.specs.declared.Question.{Question}
 use Rattle.search.specs.Search.{search_lines, ByTable}
 use Rattle.search.proofs.Lending.{long_costs, long_work, long_route}
 use Rattle.tender.specs.SearchTable.{SameLengths}

@@ -13,18 +13,16 @@ use Rattle.paths.proofs.Loops.{step_away}
 use Rattle.paths.proofs.Walks.{stay}
 use Rattle.settling.specs.List.{At, IsL}
 use Rattle.floor.specs.declared.Floor.{Floor}
-use Rattle.floor.specs.declared.Screen.{Screen}
-use Rattle.floor.specs.declared.Screen.TheVariants.{Passed, Refused}
+use Rattle.floor.specs.Screen.{Screen, Passed, Refused}
 use Rattle.floor.specs.Refusal.{Line, screen}
 use Rattle.floor.specs.Step.{least_step, greatest_step, graph}
 use Rattle.floor.proofs.Screens.{and_then, screen_append}
 use Rattle.floor.proofs.Lines.{lowest_line, number_between}
-use Rattle.answering.specs.declared.Answer.{Answer}
-use Rattle.answering.specs.declared.Answer.TheVariants.{Found, None, Stopped}
+use Rattle.answering.specs.Answer.{Answer, Found, None, Stopped}
 use Rattle.answering.specs.declared.AnswerNumbers.{AnswerNumbers}
 use Rattle.answering.specs.Answers.{numbers_of}
 use Rattle.answering.specs.Rooms.{Rooms, length_lines}
-use Rattle.answering.specs.Question.{Question}
+use Rattle.answering.specs.declared.Question.{Question}
 use Rattle.search.specs.Search.{limit_line, search_lines, Searched, refused, passed}
 use Rattle.search.proofs.Lending.{some_limit}
 use Rattle.tender.specs.SearchTable.{Answers}

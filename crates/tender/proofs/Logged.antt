@@ -8,7 +8,7 @@ use lib.ListN.{length, drop, length-drop}
 use lib.Seq.{length-take-le}
 use Rattle.floor.specs.declared.Floor.{Floor}
 use Rattle.floor.specs.Place.{cells}
-use Rattle.answering.specs.declared.Answer.{Answer}
+use Rattle.answering.specs.Answer.{Answer}
 use Rattle.answering.specs.Rooms.{Rooms}
 use Rattle.recordlayout.specs.Record.{record_size, question_in, ways_in}
 use Rattle.routelog.proofs.Logging.{refused, answer_logged}
@@ -54,7 +54,7 @@ route_log = record {
   reads_back = λ e q a room room' n w more route route' r x. trip.reads_back e room room' more route route' n r q a w x;
   reads_back_call = reads_back_call;
   file_read = log_written;
-  writes_back = λ rest route route' n taken r x e room room' w. trip.writes_back rest route route' room room' n taken r w x e;
+  writes_back = λ rest route route' r x room room' w. trip.writes_back rest route route' room room' r w x;
   writes_back_call = writes_back_call;
   file_written = log_back;
   one_list = same_bytes;

@@ -16,7 +16,7 @@ use Rattle.paths.proofs.Firsts.{first_unique}
 use Rattle.paths.proofs.Meaning.{reachable_known}
 use Rattle.settling.proofs.OneList.{stands_once}
 use Rattle.floor.specs.declared.Floor.{Floor}
-use Rattle.floor.specs.declared.Screen.TheVariants.{Passed}
+use Rattle.floor.specs.Screen.{Passed}
 use Rattle.floor.specs.Place.{cells}
 use Rattle.floor.specs.Step.{least_step, greatest_step, graph}
 use Rattle.floor.specs.Length.{Surd, surd, length_of}
@@ -25,7 +25,7 @@ use Rattle.floor.proofs.Laws.{lawful}
 use Rattle.floor.proofs.Questions.{question_passed, start_inside}
 use Rattle.answering.specs.declared.AnswerNumbers.{AnswerNumbers}
 use Rattle.answering.specs.Rooms.{Rooms, rooms}
-use Rattle.answering.specs.Question.{Question}
+use Rattle.answering.specs.declared.Question.{Question}
 use Rattle.search.specs.Search.{search_lines}
 use Rattle.search.proofs.Lending.{search_question, long_costs}
 use Rattle.tender.specs.SearchTable.{GoalWithin, GoalMissing, Otherwise, Answers, TableHolds}

@@ -6,11 +6,11 @@ use native.Mathlib.Omega.{arith}
 use lib.ListN.{take, drop}
 use lib.Seq.{take_at, drop_at, drop-drop}
 use Rattle.floor.specs.declared.Floor.{Floor}
-use Rattle.answering.specs.declared.Answer.{Answer}
+use Rattle.answering.specs.Answer.{Answer}
 use Rattle.answering.specs.declared.AnswerNumbers.{AnswerNumbers}
 use Rattle.answering.specs.Answers.{numbers_of}
 use Rattle.answering.specs.Rooms.{Rooms}
-use Rattle.answering.specs.Question.{Question}
+use Rattle.answering.specs.declared.Question.{Question}
 use Rattle.search.specs.Search.{Searched}
 use Rattle.recordlayout.specs.Record.{record_size, question_in, ways_in, record_for, record_of}
 use Rattle.desk.specs.Desk.{with_ways, Asked, no_zeros, searched, whole_records, Answered, record_at, IsAnswered}

@@ -14,18 +14,18 @@ use Rattle.paths.specs.First.{First}
 use Rattle.settling.specs.Answer.{Kind, Row}
 use Rattle.settling.proofs.Outcomes.{code, found_first, found_cost, stopped_floor}
 use Rattle.floor.specs.declared.Floor.{Floor}
-use Rattle.floor.specs.declared.Screen.TheVariants.{Passed}
+use Rattle.floor.specs.Screen.{Passed}
 use Rattle.floor.specs.Length.{surd, length_of, route_length}
 use Rattle.floor.specs.Place.{cells}
 use Rattle.floor.specs.Step.{least_step, greatest_step, graph}
 use Rattle.floor.specs.Refusal.{screen, question_lines}
 use Rattle.floor.proofs.Laws.{lawful}
 use Rattle.floor.proofs.Questions.{question_passed, start_inside, goal_inside}
-use Rattle.answering.specs.declared.Answer.{Answer}
+use Rattle.answering.specs.Answer.{Answer}
 use Rattle.answering.specs.declared.AnswerNumbers.{AnswerNumbers}
 use Rattle.answering.specs.Answers.{row_of, answered, answer_by, numbers_of}
 use Rattle.answering.specs.Rooms.{Rooms}
-use Rattle.answering.specs.Question.{Question}
+use Rattle.answering.specs.declared.Question.{Question}
 use Rattle.search.specs.Search.{search_lines, ByTable, Searched, refused, passed}
 use Rattle.search.proofs.Lending.{search_question}
 

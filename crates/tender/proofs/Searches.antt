@@ -6,16 +6,15 @@ use lib.ListN.{length, take}
 use Rattle.settling.specs.Answer.{costs_left}
 use Rattle.paths.proofs.Exists.{right_unique, right_exists}
 use Rattle.floor.specs.declared.Floor.{Floor}
-use Rattle.floor.specs.declared.Screen.{Screen}
-use Rattle.floor.specs.declared.Screen.TheVariants.{Passed, Refused}
+use Rattle.floor.specs.Screen.{Screen, Passed, Refused}
 use Rattle.floor.specs.Step.{graph}
 use Rattle.floor.specs.Refusal.{screen}
 use Rattle.floor.proofs.Laws.{lawful}
 use Rattle.floor.proofs.Questions.{question_passed, start_inside}
-use Rattle.answering.specs.declared.Answer.{Answer}
+use Rattle.answering.specs.Answer.{Answer}
 use Rattle.answering.specs.Answers.{row_of, answer_by, numbers_of}
 use Rattle.answering.specs.Rooms.{Rooms}
-use Rattle.answering.specs.Question.{Question}
+use Rattle.answering.specs.declared.Question.{Question}
 use Rattle.search.specs.Search.{search_lines, ByTable, Searched, refused, passed}
 use Rattle.search.proofs.Lending.{search_question, searched_refused}
 use Rattle.search.proofs.Promise.{by_table, by_refusal}

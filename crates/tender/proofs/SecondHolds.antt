@@ -12,21 +12,24 @@ use Rattle.paths.specs.Graph.{MARK}
 use Rattle.paths.specs.Route.{Reachable}
 use Rattle.floor.specs.declared.Floor.{Floor}
 use Rattle.floor.specs.Place.{cells}
-use Rattle.floor.specs.declared.Screen.TheVariants.{Passed}
+use Rattle.floor.specs.Screen.{Passed}
 use Rattle.floor.specs.Refusal.{screen}
 use Rattle.floor.specs.Step.{graph}
-use Rattle.maptext.specs.declared.Read.TheVariants.{Map}
+use Rattle.std.specs.Prelude.{Option, Some, None, Result, Ok, Err}
+use Rattle.floor.specs.declared.refusals.Refusal.{Refusal}
 use Rattle.maptext.specs.Reading as reading
 use Rattle.maptext.specs.Reading.{Reading, refused, read, reading_of, read_for, cells_left, IsRead}
-use Rattle.maptext.proofs.Texts.{read_of, read_back, reads_back}
+use Rattle.maptext.proofs.Texts.{reads_back, one_reading}
 use Rattle.maptext.proofs.Calls.{calls_back}
+use Rattle.claims.specs.declared.FaultAt.{FaultAt}
 use Rattle.claims.specs.Route as route
+use Rattle.claims.specs.Route.{holds}
 use Rattle.claims.specs.Table as claimed
 use Rattle.claims.specs.Table.{right, table_verdict}
-use Rattle.claims.proofs.Claims.{route_of, route_back, table_of, table_back, holds_exactly, right_exactly, settles_none, settles_cost}
+use Rattle.claims.proofs.Claims.{holds_exactly, right_exactly, settles_none, settles_cost}
 use Rattle.claims.proofs.Collecting.{accepted_exactly, accepted_cost}
 use Rattle.claims.proofs.TableCalls.{zero_right, forty_breaks}
-use Rattle.answering.specs.declared.Answer.{Answer}
+use Rattle.answering.specs.Answer.{Answer}
 use Rattle.answering.specs.Answers.{numbers_of}
 use Rattle.answering.specs.Rooms.{Rooms}
 use Rattle.search.specs.Search.{search_lines}
@@ -64,24 +67,35 @@ of_record {f} {m} {question} r {p} {a} {p'} same (searched z x) k t s =
     record { numbers = numbers_of a; is_record = k ∙ record_numbers a; before = p; after = p'; lengths = same; table = table_holds (by_table x q) q }
 
 -- a map that can be used was read
-used_read : (text room : List ℕ) (f : Floor) (room' : List ℕ) → IsUsed text room (Map f) room' → IsRead text room (Map f) room'
+used_read : (text room : List ℕ) (f : Floor) (room' : List ℕ) → IsUsed text room (Ok f) room' → IsRead text room (Ok f) room'
 unfolding used_of
 used_read text room f room' x = go (ltb greatest_text (length text)) x.answers x.leaves
   where
-    within : (b : Bool) (w h : ℕ) (m : List ℕ) → reading_of text (length room) ≡ read w h m → reading.numbers_of (Map f) ≡ read_for (cond b (refused 14 0) (read w h m))
-        → room' ≡ cells_left (cond b (refused 14 0) (read w h m)) room → IsRead text room (Map f) room'
+    within : (b : Bool) (w h : ℕ) (m : List ℕ) → reading_of text (length room) ≡ read w h m → reading.numbers_of (Ok f) ≡ read_for (cond b (refused 14 0) (read w h m))
+        → room' ≡ cells_left (cond b (refused 14 0) (read w h m)) room → IsRead text room (Ok f) room'
     within true w h m e a l = let z : ◌≡◌ {A = ℕ} 0 1 = cc in absurd (omega arith)
     within false w h m e a l = record { answers = rw e a; leaves = rw e l }
 
-    sides : (y : Reading) → reading_of text (length room) ≡ y → reading.numbers_of (Map f) ≡ read_for (within_sides y)
-        → room' ≡ cells_left (within_sides y) room → IsRead text room (Map f) room'
+    sides : (y : Reading) → reading_of text (length room) ≡ y → reading.numbers_of (Ok f) ≡ read_for (within_sides y)
+        → room' ≡ cells_left (within_sides y) room → IsRead text room (Ok f) room'
     sides (refused n p) e a l = record { answers = rw e a; leaves = rw e l }
     sides (read w h m) e a l = within (ltb greatest_used_side w || ltb greatest_used_side h) w h m e a l
 
-    go : (b : Bool) → reading.numbers_of (Map f) ≡ read_for (cond b (refused 14 0) (within_sides (reading_of text (length room))))
-        → room' ≡ cells_left (cond b (refused 14 0) (within_sides (reading_of text (length room)))) room → IsRead text room (Map f) room'
+    go : (b : Bool) → reading.numbers_of (Ok f) ≡ read_for (cond b (refused 14 0) (within_sides (reading_of text (length room))))
+        → room' ≡ cells_left (cond b (refused 14 0) (within_sides (reading_of text (length room)))) room → IsRead text room (Ok f) room'
     go true a l = let z : ◌≡◌ {A = ℕ} 0 1 = cc in absurd (omega arith)
     go false a l = sides (reading_of text (length room)) refl a l
+
+-- the answers that accept a claim are the only ones with their numbers
+accepts : (v : Result (Result ℕ FaultAt) Refusal) (k : ℕ) → route.numbers_of v ≡ holds k → v ≡ Ok (Ok k)
+accepts (Ok (Ok j)) k e = let same : j ≡ k = cc in rw same
+accepts (Ok (Err x)) k e = let z : ◌≡◌ {A = ℕ} 0 1 = cc in absurd (omega arith)
+accepts (Err r) k e = let z : ◌≡◌ {A = ℕ} 0 1 = cc in absurd (omega arith)
+
+accepts_table : (v : Result (Option ℕ) Refusal) → claimed.numbers_of v ≡ right → v ≡ Ok None
+accepts_table (Ok None) e = refl
+accepts_table (Ok (Some b)) e = let z : ◌≡◌ {A = ℕ} 0 1 = cc in absurd (omega arith)
+accepts_table (Err r) e = let z : ◌≡◌ {A = ℕ} 0 1 = cc in absurd (omega arith)
 
 -- The second condition of the tender
 pub second_condition : SecondCondition
@@ -101,15 +115,15 @@ second_condition = record {
   none_call = λ f m s t x e z. none_claimed f m s t ((right_exactly f m s t).1 ((zero_right f m s t x e).0 z));
   map_call = calls_back;
   judge_call = λ text room x room' c j e. e ∙ sym c.numbers;
-  judge = λ text room r room' x j e. sym (read_back j) ∙ ap read_of (e ∙ sym x.answers) ∙ read_back r;
+  judge = λ text room r room' x j e. (one_reading text room (record { answers = e; leaves = x.leaves }) x).0;
   program_map = used_read;
   route_claim = λ f m c v x p k. (
     λ e. let w = (holds_exactly f m c k).0 (sym x ∙ ap route.numbers_of e) in (w.0.route, w.0.costs, w.1),
-    λ w. sym (route_back v) ∙ ap route_of (x ∙ (holds_exactly f m c k).1 (record { passed = p; route = w.0; costs = w.1 }, w.2)),
+    λ w. accepts v k (x ∙ (holds_exactly f m c k).1 (record { passed = p; route = w.0; costs = w.1 }, w.2)),
   );
   table_claim = λ f m s t v x p. (
     λ e. ((right_exactly f m s t).0 (sym x ∙ ap claimed.numbers_of e)).1,
-    λ w. sym (table_back v) ∙ ap table_of (x ∙ (right_exactly f m s t).1 (p, w)),
+    λ w. accepts_table v (x ∙ (right_exactly f m s t).1 (p, w)),
   );
   none_claim = λ f m s t v x e. none_claimed f m s t (sym x ∙ ap claimed.numbers_of e);
   map = λ f m text text' n w room r room' x h. reads_back f m text text' room room' n r w x h;

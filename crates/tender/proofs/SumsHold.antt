@@ -11,12 +11,11 @@ use Rattle.floor.specs.declared.Floor.{Floor}
 use Rattle.floor.specs.Length.{Surd, at_most, times, squared}
 use Rattle.floor.specs.Step.{greatest_cost}
 use Rattle.floor.proofs.Lengths.{cost_parts}
-use Rattle.answering.specs.declared.Answer.{Answer}
-use Rattle.answering.specs.declared.Answer.TheVariants.{Found, None, Stopped}
+use Rattle.answering.specs.Answer.{Answer, Found, None, Stopped}
 use Rattle.answering.specs.declared.AnswerNumbers.{AnswerNumbers}
 use Rattle.answering.specs.Answers.{numbers_of}
 use Rattle.answering.specs.Rooms.{Rooms}
-use Rattle.answering.specs.Question.{Question}
+use Rattle.answering.specs.declared.Question.{Question}
 use Rattle.search.specs.Search.{Searched}
 use Rattle.astar.specs.Astar.{Aimed}
 use Rattle.recordlayout.specs.Record.{record_for, answer_in}

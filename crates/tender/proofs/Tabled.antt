@@ -18,16 +18,16 @@ use Rattle.settling.proofs.Lists.{L-members}
 use Rattle.settling.proofs.OneList.{at_in, in_place, reached_value, computed_is_L, L-is-computed, one_place}
 use Rattle.settling.proofs.Outcomes.{code, found_exactly, none_exactly, stopped_exactly, found_is, none_is, stopped_is, found_first, settled_left, unsettled_left}
 use Rattle.floor.specs.declared.Floor.{Floor}
-use Rattle.floor.specs.declared.Screen.TheVariants.{Passed}
+use Rattle.floor.specs.Screen.{Passed}
 use Rattle.floor.specs.Place.{cells}
 use Rattle.floor.specs.Step.{graph}
 use Rattle.floor.specs.Length.{surd}
 use Rattle.floor.specs.Refusal.{screen}
-use Rattle.answering.specs.declared.Answer.{Answer}
+use Rattle.answering.specs.Answer.{Answer}
 use Rattle.answering.specs.declared.AnswerNumbers.{AnswerNumbers}
 use Rattle.answering.specs.Answers.{numbers_of}
 use Rattle.answering.specs.Rooms.{Rooms}
-use Rattle.answering.specs.Question.{Question}
+use Rattle.answering.specs.declared.Question.{Question}
 use Rattle.search.specs.Search.{search_lines, ByTable}
 use Rattle.tender.specs.SearchTable.{GoalWithin, GoalMissing, Otherwise, BeginsWithRoute, NoRoute, Answers, TableHolds}
 use Rattle.tender.proofs.Rowed.{told, row_kind, row_no_refusal, given, law, starts, ends, settled_is, as_row}

@@ -9,11 +9,11 @@ use Rattle.floor.specs.declared.Floor.{Floor}
 use Rattle.floor.specs.Length.{surd, square, times, squared, step_length, length_of}
 use Rattle.floor.specs.Step.{step_weight, step_cost, target, graph}
 use Rattle.floor.proofs.Lengths.{cost_over_length, cost_under_length, floor_under_length, length_under_length}
-use Rattle.answering.specs.declared.Answer.{Answer}
+use Rattle.answering.specs.Answer.{Answer}
 use Rattle.answering.specs.declared.AnswerNumbers.{AnswerNumbers}
 use Rattle.answering.specs.Answers.{numbers_of}
 use Rattle.answering.specs.Rooms.{Rooms}
-use Rattle.answering.specs.Question.{Question}
+use Rattle.answering.specs.declared.Question.{Question}
 use Rattle.search.specs.Search.{Searched}
 use Rattle.astar.specs.Astar.{Aimed}
 use Rattle.tender.specs.ThirdCondition.{Measured, ThirdCondition}

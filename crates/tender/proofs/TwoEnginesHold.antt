@@ -13,8 +13,7 @@ use Rattle.settling.specs.Aimed.{is_settled, settled_count}
 use Rattle.settling.proofs.Outcomes.{settled_left}
 use Rattle.settling.proofs.AimedPlain.{aimed_kind, aimed_number, aimed_route, fewer_cells, fewer_count}
 use Rattle.floor.specs.declared.Floor.{Floor}
-use Rattle.floor.specs.declared.Screen.{Screen}
-use Rattle.floor.specs.declared.Screen.TheVariants.{Passed, Refused}
+use Rattle.floor.specs.Screen.{Screen, Passed, Refused}
 use Rattle.floor.specs.Place.{cells}
 use Rattle.floor.specs.Step.{graph}
 use Rattle.floor.specs.Length.{surd, length_of}
@@ -24,7 +23,7 @@ use Rattle.floor.proofs.Laws.{lawful}
 use Rattle.floor.proofs.Estimating.{estimate_away}
 use Rattle.floor.proofs.Screens.{screen_after}
 use Rattle.floor.proofs.Questions.{start_inside}
-use Rattle.answering.specs.declared.Answer.{Answer}
+use Rattle.answering.specs.Answer.{Answer}
 use Rattle.answering.specs.declared.AnswerNumbers.{AnswerNumbers}
 use Rattle.answering.specs.Answers.{row_of, answer_by, numbers_of}
 use Rattle.answering.specs.Rooms.{Rooms, lent_lines}

@@ -5,16 +5,16 @@ use mathlib.Core.Logic.{◌↔◌}
 use mathlib.Core.List.{List}
 use Prim.Native.Nat.{ℕ, ◌<◌}
 use lib.ListN.{length}
-use Rattle.floor.specs.declared.Screen.{Screen}
-use Rattle.floor.specs.declared.Screen.TheVariants.{Refused}
+use Rattle.std.specs.Prelude.{Option, Result}
+use Rattle.floor.specs.declared.refusals.Refusal.{Refusal}
+use Rattle.floor.specs.declared.written.WrittenNumbers.{WrittenNumbers}
+use Rattle.floor.specs.Screen.{Screen, Refused}
+use Rattle.floor.specs.Numbers.{Numbers, written_as}
 use Rattle.floor.specs.Refusal.{screen}
-use Rattle.routelog.specs.declared.Outcome.{Outcome}
 use Rattle.routelog.specs.declared.EntryRead.{EntryRead}
 use Rattle.routelog.specs.declared.EntryNumbers.{EntryNumbers}
-use Rattle.routelog.specs.declared.EntryWritten.{EntryWritten}
-use Rattle.routelog.specs.declared.EntryWrittenNumbers.{EntryWrittenNumbers}
 use Rattle.logentries.specs.Entry.{Entry}
-use Rattle.routelog.specs.Reading.{Reading, refused, reading_of, route_left, IsRead}
+use Rattle.routelog.specs.Reading.{Reading, refused, reading_of, numbers_of, route_left, IsRead}
 use Rattle.routelog.specs.Writing.{write_lines, entry_left, IsWritten}
 use Rattle.routelog.specs.Refusals.{ReaderRefuses, WriterRefuses}
 use Rattle.routelog.specs.Calls.{ReadCalled, WriteCalled}
@@ -44,8 +44,8 @@ module _ (rest room room' : List ℕ) where
     alters_nothing = λ n p e. leaves ∙ ap (λ (y : Reading). route_left y room) ((exactly n p).0 e);
   }
 
-  pub log_reader_refuses : (r : EntryRead) → IsRead rest room r room' → Refuses ReadDue (λ n p. r.outcome ≡ Outcome.Refused n p) (room' ≡ room)
-  log_reader_refuses r x = of_reading x.leaves (λ n p. words.outcome_refused reading r.outcome n p x.outcome)
+  pub log_reader_refuses : (r : Result (Option EntryRead) Refusal) → IsRead rest room r room' → Refuses ReadDue (λ n p. numbers_of r ≡ Numbers.refused n p) (room' ≡ room)
+  log_reader_refuses r x = of_reading x.leaves (λ n p. words.outcome_refused reading r n p x.outcome)
 
   pub log_reader_call_refuses : (x : EntryNumbers) → ReadCalled rest room x room' → Refuses ReadDue (Says x.refusal x.place) (room' ≡ room)
   log_reader_call_refuses x c =
@@ -65,10 +65,10 @@ module _ (e : Entry) (room room' : List ℕ) where
     alters_nothing = λ n p h. leaves ∙ ap (entry_left e room) ((exactly n p).0 h);
   }
 
-  pub log_writer_refuses : (w : EntryWritten) → IsWritten e room w room' → Refuses WriteDue (λ n p. w ≡ EntryWritten.Refused n p) (room' ≡ room)
+  pub log_writer_refuses : (w : Result ℕ Refusal) → IsWritten e room w room' → Refuses WriteDue (λ n p. written_as w ≡ Numbers.refused n p) (room' ≡ room)
   log_writer_refuses w x = of_lines x.leaves (λ n p. words.written_refused e lines w n p x.answers)
 
-  pub log_writer_call_refuses : (x : EntryWrittenNumbers) → WriteCalled e room x room' → Refuses WriteDue (Says x.refusal x.place) (room' ≡ room)
+  pub log_writer_call_refuses : (x : WrittenNumbers) → WriteCalled e room x room' → Refuses WriteDue (Says x.refusal x.place) (room' ≡ room)
   log_writer_call_refuses x c =
       of_lines c.leaves
       (says (λ n p. write_call_refused e lines x n p c.numbers) (λ n p h. writer_number ((words.writer_refuses e (length room) n p).0 h).0))

@@ -11,37 +11,39 @@ use borrow.Author.Tests.{lt-ltb, le-ltb}
 use lib.Dec.{T, ltb, ltb→lt}
 use lib.ListN.{length}
 use Rattle.paths.proofs.Bools.{T-or}
-use Rattle.maptext.specs.declared.Read.{Read}
+use Rattle.std.specs.Prelude.{Result}
+use Rattle.floor.specs.declared.Floor.{Floor}
+use Rattle.floor.specs.declared.refusals.Refusal.{Refusal}
+use Rattle.floor.specs.Numbers.{Numbers}
 use Rattle.maptext.specs.Reading.{Reading, refused, read, reading_of, numbers_of, read_for, cells_left, IsRead}
 use Rattle.maptext.specs.Faults.{IsFirstFault}
-use Rattle.maptext.proofs.Texts.{read_of, read_back}
 use Rattle.maptext.proofs.Refusals.{refused_exactly}
 use Rattle.mapuse.specs.Use.{greatest_text, greatest_used_side, within_sides, used_of, IsUsed}
 use Rattle.tender.specs.FirstCondition.{Refuses, IsUnusable, too_long, unread, too_great}
 
 -- an answer of the reader is a refusal exactly when the reading is
-read_refused : (x : Reading) (r : Read) (n p : ℕ) → numbers_of r ≡ read_for x → (r ≡ Read.Refused n p) ↔ (x ≡ refused n p)
-read_refused x r n p e = (λ k. from x (sym e ∙ ap numbers_of k), λ k. sym (read_back r) ∙ ap read_of (e ∙ ap read_for k))
+read_refused : (x : Reading) {a : Numbers} (n p : ℕ) → a ≡ read_for x → (a ≡ Numbers.refused n p) ↔ (x ≡ refused n p)
+read_refused x n p e = (λ k. from x (sym e ∙ k), λ k. e ∙ ap read_for k)
   where
-    from : (x : Reading) → read_for x ≡ numbers_of (Read.Refused n p) → x ≡ refused n p
+    from : (x : Reading) → read_for x ≡ Numbers.refused n p → x ≡ refused n p
     from (refused a b) e = let number : a ≡ n = cc in let place : b ≡ p = cc in rw (number, place)
     from (read w h m) e = let z : ◌≡◌ {A = ℕ} 0 1 = cc in absurd (omega arith)
 
 -- an answer from a reading, with the room that it leaves
-from_reading : {due : ℕ → ℕ → Type 0} {room : List ℕ} {r : Read} {room' : List ℕ} (x : Reading) → numbers_of r ≡ read_for x → room' ≡ cells_left x room
-    → ((n p : ℕ) → (x ≡ refused n p) ↔ due n p) → Refuses due (λ n p. r ≡ Read.Refused n p) (room' ≡ room)
-from_reading {room = room} {r = r} x answers leaves exactly = record {
-  exactly = λ n p. Iff.trans (read_refused x r n p answers) (exactly n p);
-  alters_nothing = λ n p e. leaves ∙ ap (λ (y : Reading). cells_left y room) ((read_refused x r n p answers).0 e);
+from_reading : {due : ℕ → ℕ → Type 0} {room room' : List ℕ} {a : Numbers} (x : Reading) → a ≡ read_for x → room' ≡ cells_left x room
+    → ((n p : ℕ) → (x ≡ refused n p) ↔ due n p) → Refuses due (λ n p. a ≡ Numbers.refused n p) (room' ≡ room)
+from_reading {room = room} x answers leaves exactly = record {
+  exactly = λ n p. Iff.trans (read_refused x n p answers) (exactly n p);
+  alters_nothing = λ n p e. leaves ∙ ap (λ (y : Reading). cells_left y room) ((read_refused x n p answers).0 e);
 }
 
-pub reader_refuses : (text room : List ℕ) (r : Read) (room' : List ℕ) → IsRead text room r room'
-    → Refuses (IsFirstFault text (length room)) (λ n p. r ≡ Read.Refused n p) (room' ≡ room)
+pub reader_refuses : (text room : List ℕ) (r : Result Floor Refusal) (room' : List ℕ) → IsRead text room r room'
+    → Refuses (IsFirstFault text (length room)) (λ n p. numbers_of r ≡ Numbers.refused n p) (room' ≡ room)
 reader_refuses text room r room' x = from_reading (reading_of text (length room)) x.answers x.leaves (refused_exactly text (length room))
 
-pub judge_refuses : (text : List ℕ) (room : ℕ) (r : Read) → numbers_of r ≡ read_for (reading_of text room)
-    → (n p : ℕ) → (r ≡ Read.Refused n p) ↔ IsFirstFault text room n p
-judge_refuses text room r e n p = Iff.trans (read_refused (reading_of text room) r n p e) (refused_exactly text room n p)
+pub judge_refuses : (text : List ℕ) (room : ℕ) (r : Result Floor Refusal) → numbers_of r ≡ read_for (reading_of text room)
+    → (n p : ℕ) → (numbers_of r ≡ Numbers.refused n p) ↔ IsFirstFault text room n p
+judge_refuses text room r e n p = Iff.trans (read_refused (reading_of text room) n p e) (refused_exactly text room n p)
 
 -- a map is refused for a side exactly when one is too great
 sides_refused : (w h : ℕ) (m : List ℕ) (n p : ℕ)
@@ -89,6 +91,6 @@ module _ (text : List ℕ) (room n p : ℕ) where
       to (unread short x) = rw (le-ltb greatest_text (length text) short, (refused_exactly text room n p).1 x) refl
       to (too_great short w h m e s f g) = rw (le-ltb greatest_text (length text) short, e) ((sides_refused w h m n p).1 (s, f, g))
 
-pub program_refuses : (text room : List ℕ) (r : Read) (room' : List ℕ) → IsUsed text room r room'
-    → Refuses (IsUnusable text (length room)) (λ n p. r ≡ Read.Refused n p) (room' ≡ room)
+pub program_refuses : (text room : List ℕ) (r : Result Floor Refusal) (room' : List ℕ) → IsUsed text room r room'
+    → Refuses (IsUnusable text (length room)) (λ n p. numbers_of r ≡ Numbers.refused n p) (room' ≡ room)
 program_refuses text room r room' x = from_reading (used_of text (length room)) x.answers x.leaves (used_refused text (length room))

@@ -1,17 +1,16 @@
 -- 02, R-3: half the step lies on the cell you leave. What a step costs, that the step back costs the same, and what no answer's cost or floor exceeds.
-use Rattle.std.specs.Prelude.{◌≡◌, List, ◌∷◌, ℕ, ◌+◌, ◌*◌, ◌≤◌, ◌<◌, T, get_or}
+use Rattle.std.specs.Prelude.{◌≡◌, Ok, List, ◌∷◌, ℕ, ◌+◌, ◌*◌, ◌≤◌, ◌<◌, T, get_or}
 use Rattle.paths.specs.Route.{walks, cost_of}
 use Rattle.floor.specs.declared.Floor.{Floor}
-use Rattle.floor.specs.declared.Step.TheVariants.{To}
 use Rattle.floor.specs.Direction.{row_of, opposite}
 use Rattle.floor.specs.Length.{plus, step_length, length_of}
 use Rattle.floor.specs.Refusal.{HasPassed}
-use Rattle.floor.specs.Step.{least_step, greatest_step, greatest_cost, step_of, graph}
-use Rattle.answering.specs.declared.Answer.{Answer}
+use Rattle.floor.specs.Step.{least_step, greatest_step, greatest_cost, step, step_of, graph}
+use Rattle.answering.specs.Answer.{Answer}
 use Rattle.answering.specs.declared.AnswerNumbers.{AnswerNumbers}
 use Rattle.answering.specs.Answers.{numbers_of}
 use Rattle.answering.specs.Rooms.{Rooms}
-use Rattle.answering.specs.Question.{Question}
+use Rattle.answering.specs.declared.Question.{Question}
 use Rattle.search.specs.Search.{Searched, Called}
 use Rattle.astar.specs.Astar.{Aimed, AimedCall}
 use Rattle.recordlayout.specs.Record.{record_for}
@@ -28,13 +27,13 @@ pub record Bounded (n : AnswerNumbers) : Type 0 where
 
 pub record BothCells : Type 0 where
   -- "A step now costs its unit times" that sum
-  pub costs : (f : Floor) (m : List ℕ) (v d w c : ℕ) → step_of f m v d ≡ To w c → c ≡ (row_of d).unit * both_weights m v w
+  pub costs : (f : Floor) (m : List ℕ) (v d w c : ℕ) → step_of f m v d ≡ Ok (step w c) → c ≡ (row_of d).unit * both_weights m v w
   -- "It is the same piece of floor": the step back is allowed, leads back and costs the same
-  pub back : (f : Floor) (m : List ℕ) (v d w c : ℕ) → step_of f m v d ≡ To w c → step_of f m w (opposite d) ≡ To v c
+  pub back : (f : Floor) (m : List ℕ) (v d w c : ℕ) → step_of f m v d ≡ Ok (step w c) → step_of f m w (opposite d) ≡ Ok (step v c)
   -- the bounds of a step's cost
-  pub between : (f : Floor) (m : List ℕ) → HasPassed f m → (v d w c : ℕ) → step_of f m v d ≡ To w c → (least_step ≤ c) × (c ≤ greatest_step)
+  pub between : (f : Floor) (m : List ℕ) → HasPassed f m → (v d w c : ℕ) → step_of f m v d ≡ Ok (step w c) → (least_step ≤ c) × (c ≤ greatest_step)
   -- "P and Q sum the same pairs": P over straight steps, Q over diagonal ones
-  pub sums : (f : Floor) (m : List ℕ) (v d w c : ℕ) (ds : List ℕ) → step_of f m v d ≡ To w c
+  pub sums : (f : Floor) (m : List ℕ) (v d w c : ℕ) (ds : List ℕ) → step_of f m v d ≡ Ok (step w c)
       → length_of f m v (d ∷ ds) ≡ plus (step_length d (both_weights m v w)) (length_of f m w ds)
   -- and so every allowed route costs 70 P + 99 Q
   pub route : (f : Floor) (m : List ℕ) (v : ℕ) (ds : List ℕ) → T (walks (graph f m) v ds)

@@ -4,12 +4,13 @@ use Rattle.paths.specs.Graph.{MARK}
 use Rattle.paths.specs.Table.{Right}
 use Rattle.settling.specs.Answer.{Kind, Row, costs_left}
 use Rattle.floor.specs.declared.Floor.{Floor}
-use Rattle.floor.specs.declared.Screen.TheVariants.{Passed, Refused}
+use Rattle.floor.specs.Screen.{Passed, Refused}
 use Rattle.floor.specs.Place.{floor_of, cells}
 use Rattle.floor.specs.Step.{graph}
 use Rattle.floor.specs.Length.{Surd, surd, length_of}
 use Rattle.floor.specs.Refusal.{Line, screen}
-use Rattle.answering.specs.Question.{Question, question}
+use Rattle.answering.specs.declared.Question.{Question}
+use Rattle.answering.specs.Question.{question}
 use Rattle.answering.specs.Answers.{row_of}
 use Rattle.search.specs.Search.{limited_lines}
 

@@ -1,14 +1,14 @@
 -- 02, R-2: limit 0 tells nothing, and is refused. So the second condition speaks of limits from 1 on, and every answer tells something.
 use Rattle.std.specs.Prelude.{◌≡◌, ◌↔◌, ◌≢◌, List, ℕ, ◌≤◌, ◌<◌, length}
 use Rattle.floor.specs.declared.Floor.{Floor}
-use Rattle.floor.specs.declared.Screen.TheVariants.{Passed}
+use Rattle.floor.specs.Screen.{Passed}
 use Rattle.floor.specs.Refusal.{screen}
 use Rattle.floor.specs.Step.{least_step}
-use Rattle.answering.specs.declared.Answer.{Answer}
+use Rattle.answering.specs.Answer.{Answer}
 use Rattle.answering.specs.declared.AnswerNumbers.{AnswerNumbers}
 use Rattle.answering.specs.Answers.{numbers_of}
 use Rattle.answering.specs.Rooms.{Rooms, length_lines}
-use Rattle.answering.specs.Question.{Question}
+use Rattle.answering.specs.declared.Question.{Question}
 use Rattle.search.specs.Search.{search_lines, Searched, Called}
 use Rattle.recordlayout.specs.Record.{question_in, record_for}
 use Rattle.desk.specs.Desk.{whole_records, record_at, IsAnswered}

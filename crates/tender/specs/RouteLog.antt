@@ -1,24 +1,22 @@
 -- The route log, 02's R-1, over the promises of its functions and of the program: what is written is read back, what is read is written back, a torn file
 -- loses no whole entry, and every answer can be logged. What is refused is in FirstCondition.
-use Rattle.std.specs.Prelude.{◌≡◌, ◌≢◌, List, [], ◌∷◌, ◌++◌, ℕ, ◌≤◌, ◌<◌, length, take, drop}
+use Rattle.std.specs.Prelude.{◌≡◌, ◌≢◌, Option, Some, Result, Ok, List, [], ◌∷◌, ◌++◌, ℕ, ◌≤◌, ◌<◌, length, take, drop}
 use Rattle.floor.specs.declared.Floor.{Floor}
-use Rattle.floor.specs.declared.Screen.TheVariants.{Passed}
+use Rattle.floor.specs.declared.refusals.Refusal.{Refusal}
+use Rattle.floor.specs.declared.written.WrittenNumbers.{WrittenNumbers}
+use Rattle.floor.specs.Screen.{Passed}
 use Rattle.floor.specs.Place.{cells}
-use Rattle.floor.specs.Numbers.{gives}
-use Rattle.answering.specs.declared.Answer.{Answer}
+use Rattle.floor.specs.Numbers.{gives, written_numbers}
+use Rattle.answering.specs.Answer.{Answer}
 use Rattle.answering.specs.Answers.{numbers_of}
 use Rattle.answering.specs.Rooms.{Rooms}
 use Rattle.recordlayout.specs.Record.{record_size, record_of}
-use Rattle.routelog.specs.declared.Outcome.TheVariants.{Logged}
 use Rattle.routelog.specs.declared.EntryRead.{EntryRead}
 use Rattle.routelog.specs.declared.EntryNumbers.{EntryNumbers}
-use Rattle.routelog.specs.declared.EntryWritten.{EntryWritten}
-use Rattle.routelog.specs.declared.EntryWritten.TheVariants.{Length}
-use Rattle.routelog.specs.declared.EntryWrittenNumbers.{EntryWrittenNumbers}
 use Rattle.logentries.specs.Entry.{Entry, entry_of, IsEntry}
 use Rattle.routelog.specs.Reading.{refused, reading_of, greatest_entry, IsRead}
 use Rattle.routelog.specs.Writing.{IsWritten}
-use Rattle.routelog.specs.Calls.{entry_numbers, written_numbers, ReadCalled, WriteCalled}
+use Rattle.routelog.specs.Calls.{entry_numbers, ReadCalled, WriteCalled}
 use Rattle.routelog.specs.File.{file_bytes, log_with, log_of, AllEntries, whole_before, cut_ending}
 use Rattle.mapuse.specs.Use.{greatest_used_cells}
 use Rattle.desk.specs.Desk.{Asked, whole_records, record_at, IsAnswered}
@@ -38,23 +36,23 @@ pub record CanBeEntered (f : Floor) (m : List ℕ) (r : Rooms) (question answer 
 pub record RouteLog : Type 0 where
   -- "Writing then reading gives the same entries": one entry, whatever follows it in the file
   pub reads_back : (e : Entry) → length e.question ≡ record_size → length e.answer ≡ record_size
-      → (room room' : List ℕ) (n : ℕ) → IsWritten e room (Length n) room'
-      → (more route route' : List ℕ) (r : EntryRead) → IsRead (take n room' ++ more) route r route' → length e.route ≤ length route
-      → (r ≡ record { outcome = Logged (length e.route) n; question = e.question; answer = e.answer }) × (route' ≡ e.route ++ drop (length e.route) route)
+      → (room room' : List ℕ) (n : ℕ) → IsWritten e room (Ok n) room'
+      → (more route route' : List ℕ) (r : Result (Option EntryRead) Refusal) → IsRead (take n room' ++ more) route r route' → length e.route ≤ length route
+      → (r ≡ Ok (Some (record { length = length e.route; taken = n; question = e.question; answer = e.answer }))) × (route' ≡ e.route ++ drop (length e.route) route)
   -- and so for the two calls from C, where a refusal of 0 says that the entry was written
   pub reads_back_call : (e : Entry) → length e.question ≡ record_size → length e.answer ≡ record_size
-      → (room room' : List ℕ) (n : EntryWrittenNumbers) → WriteCalled e room n room' → n.refusal ≡ 0
+      → (room room' : List ℕ) (n : WrittenNumbers) → WriteCalled e room n room' → n.refusal ≡ 0
       → (more route route' : List ℕ) (k : EntryNumbers) → ReadCalled (take n.length room' ++ more) route k route' → length e.route ≤ length route
       → (k ≡ entry_numbers (gives (length e.route ∷ n.length ∷ [])) e.question e.answer) × (route' ≡ e.route ++ drop (length e.route) route)
   -- and whole files
   pub file_read : (room : ℕ) (es : List Entry) → AllEntries room es → log_of (file_bytes es) room ≡ log_with es Passed
   -- "a file that is read writes back byte for byte": one entry
-  pub writes_back : (rest route route' : List ℕ) (n taken : ℕ) (r : EntryRead) → IsRead rest route r route' → r.outcome ≡ Logged n taken
-      → (room room' : List ℕ) (w : EntryWritten) → IsWritten (entry_of r.question r.answer (take n route')) room w room' → taken ≤ length room
-      → (w ≡ Length taken) × (room' ≡ take taken rest ++ drop taken room)
+  pub writes_back : (rest route route' : List ℕ) (r : EntryRead) → IsRead rest route (Ok (Some r)) route'
+      → (room room' : List ℕ) (w : Result ℕ Refusal) → IsWritten (entry_of r.question r.answer (take r.length route')) room w room' → r.taken ≤ length room
+      → (w ≡ Ok r.taken) × (room' ≡ take r.taken rest ++ drop r.taken room)
   -- and so for the two calls
   pub writes_back_call : (rest route route' : List ℕ) (k : EntryNumbers) → ReadCalled rest route k route' → k.refusal ≡ 0 → 0 < k.taken
-      → (room room' : List ℕ) (n : EntryWrittenNumbers) → WriteCalled (entry_of k.question k.answer (take k.length route')) room n room'
+      → (room room' : List ℕ) (n : WrittenNumbers) → WriteCalled (entry_of k.question k.answer (take k.length route')) room n room'
       → k.taken ≤ length room
       → (n ≡ written_numbers (gives (k.taken ∷ []))) × (room' ≡ take k.taken rest ++ drop k.taken room)
   -- and whole files

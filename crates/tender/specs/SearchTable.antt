@@ -10,7 +10,7 @@ use Rattle.floor.specs.Step.{graph}
 use Rattle.floor.specs.Length.{surd, length_of}
 use Rattle.answering.specs.declared.AnswerNumbers.{AnswerNumbers}
 use Rattle.answering.specs.Rooms.{Rooms}
-use Rattle.answering.specs.Question.{Question}
+use Rattle.answering.specs.declared.Question.{Question}
 
 -- "goal in L, i < k"
 pub record GoalWithin (l : List ℕ) (q : Question) : Type 0 where

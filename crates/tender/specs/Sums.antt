@@ -5,12 +5,11 @@ use Rattle.floor.specs.declared.Floor.{Floor}
 use Rattle.floor.specs.declared.RouteLength.{RouteLength}
 use Rattle.floor.specs.Length.{Surd, surd, at_most, times, squared}
 use Rattle.floor.specs.Step.{greatest_cost}
-use Rattle.answering.specs.declared.Answer.{Answer}
-use Rattle.answering.specs.declared.Answer.TheVariants.{Found}
+use Rattle.answering.specs.Answer.{Answer, Found}
 use Rattle.answering.specs.declared.AnswerNumbers.{AnswerNumbers}
 use Rattle.answering.specs.Answers.{numbers_of}
 use Rattle.answering.specs.Rooms.{Rooms}
-use Rattle.answering.specs.Question.{Question}
+use Rattle.answering.specs.declared.Question.{Question}
 use Rattle.search.specs.Search.{Searched, Called}
 use Rattle.astar.specs.Astar.{Aimed, AimedCall}
 use Rattle.recordlayout.specs.Record.{record_of, answer_in}

@@ -4,11 +4,11 @@ use Rattle.paths.specs.Route.{Route}
 use Rattle.floor.specs.declared.Floor.{Floor}
 use Rattle.floor.specs.Length.{Surd, surd, square, at_most, times, squared, length_of}
 use Rattle.floor.specs.Step.{graph}
-use Rattle.answering.specs.declared.Answer.{Answer}
+use Rattle.answering.specs.Answer.{Answer}
 use Rattle.answering.specs.declared.AnswerNumbers.{AnswerNumbers}
 use Rattle.answering.specs.Answers.{numbers_of}
 use Rattle.answering.specs.Rooms.{Rooms}
-use Rattle.answering.specs.Question.{Question}
+use Rattle.answering.specs.declared.Question.{Question}
 use Rattle.search.specs.Search.{Searched, Called}
 use Rattle.astar.specs.Astar.{Aimed, AimedCall}
 use Rattle.recordlayout.specs.Record.{question_in, ways_in, record_for}

@@ -2,14 +2,15 @@
 use Rattle.std.specs.Prelude.{◌≡◌, ◌≢◌, List, ℕ, ◌≤◌, ◌<◌, get_or, take}
 use Rattle.paths.specs.Graph.{MARK}
 use Rattle.floor.specs.declared.Floor.{Floor}
-use Rattle.floor.specs.declared.Screen.TheVariants.{Passed}
+use Rattle.floor.specs.Screen.{Passed}
 use Rattle.floor.specs.Place.{cells}
 use Rattle.floor.specs.Length.{surd}
 use Rattle.floor.specs.Refusal.{screen}
-use Rattle.answering.specs.declared.Answer.{Answer}
+use Rattle.answering.specs.Answer.{Answer}
 use Rattle.answering.specs.declared.AnswerNumbers.{AnswerNumbers}
 use Rattle.answering.specs.Answers.{numbers_of}
-use Rattle.answering.specs.Question.{Question, question}
+use Rattle.answering.specs.declared.Question.{Question}
+use Rattle.answering.specs.Question.{question}
 use Rattle.answering.specs.Rooms.{Rooms, lent_lines}
 use Rattle.search.specs.Search.{search_lines, Searched, Called}
 use Rattle.astar.specs.Astar.{Aimed, AimedCall}
