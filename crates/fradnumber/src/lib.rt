@@ -18,7 +18,7 @@ ghost use Rattle.routelog.specs.Calls as log;
 use answering::AnswerNumbers;
 use maptext::{ReadNumbers, WrittenNumbers};
 use recordlayout::RECORD_SIZE;
-use routelog::{EntryNumbers, EntryWrittenNumbers};
+use routelog::EntryNumbers;
 
 #[unsafe(no_mangle)]
 pub extern "C" fn fradnumber_check_route(
@@ -126,7 +126,7 @@ pub extern "C" fn fradnumber_write_entry(
     answer: &[u8; RECORD_SIZE],
     directions: &[u8],
     room: &mut [u8],
-) -> EntryWrittenNumbers
+) -> WrittenNumbers
     ensures { log.WriteCalled (entry_of question.now answer.now directions.now) room.old result room.new }
 {
     routelog::fradnumber_write_entry(question, answer, directions, room)

@@ -5,7 +5,7 @@ ghost use Rattle.logentries.specs.Entry.{entry_of};
 ghost use Rattle.routelog.specs.Calls as log;
 
 use recordlayout::RECORD_SIZE;
-use routelog::{EntryNumbers, EntryWrittenNumbers};
+use routelog::{EntryNumbers, WrittenNumbers};
 
 #[unsafe(no_mangle)]
 pub extern "C" fn fradnumber_read_entry(rest: &[u8], route: &mut [u8]) -> EntryNumbers
@@ -20,7 +20,7 @@ pub extern "C" fn fradnumber_write_entry(
     answer: &[u8; RECORD_SIZE],
     directions: &[u8],
     room: &mut [u8],
-) -> EntryWrittenNumbers
+) -> WrittenNumbers
     ensures { log.WriteCalled (entry_of question.now answer.now directions.now) room.old result room.new }
 {
     routelog::fradnumber_write_entry(question, answer, directions, room)
