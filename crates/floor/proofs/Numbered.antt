@@ -4,14 +4,16 @@ use mathlib.Core.Bool.{cond}
 use Prim.Native.Nat.{ℕ, ◌<◌}
 use native.Mathlib.Omega.{arith}
 use lib.Dec.{eqb}
+use lib.ListN.{get_or}
 use Rattle.std.specs.Prelude.{Result, Ok, Err}
 use Rattle.floor.specs.declared.refusals.Refusal.{Refusal}
 use Rattle.floor.specs.declared.refusals.Refusal.TheVariants.{BadSide, WrongLength, NoWeight, BadWays, StartOffMap, GoalOffMap, StartBlocked, GoalBlocked, ShortCosts, ShortWork, ShortRoute, LongRoute, NoZeros, TooBig, NoLimit, BadType, BadHeight, BadWidth, BadMapLine, NoCell, NoLineEnd, EndsTooSoon, FurtherByte, ShortCells, ShortText, CutShort, NoAnswer, BadDirections, ShortRoom}
 use Rattle.floor.specs.Refusals.{number_of, place_of}
-use Rattle.floor.specs.Numbers.{refused_as, written_as}
+use Rattle.floor.specs.Numbers.{Numbers, refused, fault, gives, refused_as, written_as}
 use Rattle.floor.specs.Screen.{Screen, Passed, Refused, screened}
 
-abbrev named : ℕ → ℕ → Refusal
+-- the refusal with a number and a place
+abbrev pub named : ℕ → ℕ → Refusal
 named n p =
     (cond (eqb n 1) BadSide
     (cond (eqb n 2) WrongLength
@@ -43,7 +45,7 @@ named n p =
     (cond (eqb n 63) BadDirections
     ShortRoom))))))))))))))))))))))))))))
 
-named_back : (r : Refusal) → named (number_of r) (place_of r) ≡ r
+pub named_back : (r : Refusal) → named (number_of r) (place_of r) ≡ r
 named_back BadSide = refl
 named_back WrongLength = refl
 named_back (NoWeight p) = refl
@@ -130,8 +132,15 @@ refused_alike a b e =
     let place : place_of a ≡ place_of b = cc in
     same_refusal a b number place
 
+-- the writer's answer with some numbers
+abbrev pub written_of : Numbers → Result ℕ Refusal
+written_of (refused n p) = Err (named n p)
+written_of (fault n p) = Err (named n p)
+written_of (gives vs) = Ok (get_or vs 0 0)
+
+pub written_is : (r : Result ℕ Refusal) → written_of (written_as r) ≡ r
+written_is (Ok n) = refl
+written_is (Err r) = ap Err (named_back r)
+
 pub same_written : (r s : Result ℕ Refusal) → written_as r ≡ written_as s → r ≡ s
-same_written (Ok n) (Ok k) e = let size : n ≡ k = cc in ap (λ (m : ℕ). Ok m) size
-same_written (Ok n) (Err y) e = let z : ◌≡◌ {A = ℕ} 0 1 = cc in absurd (omega arith)
-same_written (Err x) (Ok k) e = let z : ◌≡◌ {A = ℕ} 0 1 = cc in absurd (omega arith)
-same_written (Err x) (Err y) e = ap (λ (z : Refusal). Err z) (refused_alike x y e)
+same_written r s e = sym (written_is r) ∙ ap written_of e ∙ written_is s

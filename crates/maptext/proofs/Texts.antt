@@ -12,7 +12,7 @@ use Rattle.floor.specs.Place.{cells}
 use Rattle.floor.specs.Refusal.{screen, map_lines}
 use Rattle.floor.proofs.Passing.{map_facts, facts_pass}
 use Rattle.floor.specs.Numbers.{Numbers, refused, fault, gives, written_as}
-use Rattle.floor.proofs.Numbered.{same_refusal, same_written}
+use Rattle.floor.proofs.Numbered.{named, named_back, same_written}
 use Rattle.textlines.specs.Line.{side_line}
 use Rattle.textrows.specs.Rows.{rows}
 use Rattle.std.specs.Prelude.{Result}
@@ -24,31 +24,18 @@ use Rattle.maptext.proofs.Writing.{text_left_lem}
 use Rattle.maptext.proofs.Back.{lines, header_lines_lem, height_back, width_back, lines_back}
 use Rattle.maptext.proofs.Found.{found, found_room, found_facts}
 
--- what numbers tell
-abbrev number_in : Numbers → ℕ
-number_in (refused n p) = n
-number_in (fault n p) = n
-number_in (gives vs) = 0
+-- an answer of the reader is the only one with its numbers
+abbrev pub read_of : Numbers → Result Floor Refusal
+read_of (refused n p) = Err (named n p)
+read_of (fault n p) = Err (named n p)
+read_of (gives vs) = Ok (record { width = get_or vs 0 0; height = get_or vs 1 0; ways = get_or vs 2 0 })
 
-abbrev place_in : Numbers → ℕ
-place_in (refused n p) = p
-place_in (fault n p) = p
-place_in (gives vs) = 0
+pub read_back : (r : Result Floor Refusal) → read_of (numbers_of r) ≡ r
+read_back (Ok f) = refl
+read_back (Err r) = ap Err (named_back r)
 
-abbrev values_in : Numbers → List ℕ
-values_in (refused n p) = []
-values_in (fault n p) = []
-values_in (gives vs) = vs
-
-abbrev floor_of : List ℕ → Floor
-floor_of vs = record { width = get_or vs 0 0; height = get_or vs 1 0; ways = get_or vs 2 0 }
-
--- two answers of the reader with the same numbers are equal
 pub same_read : (r s : Result Floor Refusal) → numbers_of r ≡ numbers_of s → r ≡ s
-same_read (Ok f) (Ok g) e = ap (λ (n : Numbers). Ok (floor_of (values_in n))) e
-same_read (Ok f) (Err b) e = let z : ◌≡◌ {A = ℕ} 0 1 = cc in absurd (omega arith)
-same_read (Err a) (Ok g) e = let z : ◌≡◌ {A = ℕ} 0 1 = cc in absurd (omega arith)
-same_read (Err a) (Err b) e = ap Err (same_refusal a b (ap number_in e) (ap place_in e))
+same_read r s e = sym (read_back r) ∙ ap read_of e ∙ read_back s
 
 text_lines : (w h : ℕ) (m : List ℕ) → text_of w h m ≡ lines w h (rows w h m)
 unfolding text_of

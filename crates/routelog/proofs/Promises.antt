@@ -1,36 +1,31 @@
 -- The promises leave nothing open: a second result, with the room, is equal to the first, since an answer is the only one with its numbers and records.
 use mathlib.Core.Path.{◌≡◌, refl, sym, ap, ◌∙◌}
-use mathlib.Core.List.{List}
+use mathlib.Core.List.{List, [], ◌∷◌}
 use Prim.Native.Nat.{ℕ}
-use native.Mathlib.Omega.{arith}
 use Rattle.std.specs.Prelude.{Option, Some, None, Result, Ok, Err}
 use Rattle.floor.specs.declared.refusals.Refusal.{Refusal}
-use Rattle.floor.proofs.Numbered.{refused_alike, same_written}
+use Rattle.floor.specs.Numbers.{Numbers, refused, fault, gives}
+use Rattle.floor.proofs.Numbered.{named, named_back, same_written}
 use Rattle.routelog.specs.declared.EntryRead.{EntryRead}
 use Rattle.logentries.specs.Entry.{Entry}
 use Rattle.routelog.specs.Reading.{Reading, numbers_of, question_read, answer_read, ReadAs}
 use Rattle.routelog.specs.Writing.{IsWritten}
 
-same_entry_read : {n n' t t' : ℕ} {q q' a a' : List ℕ} → n ≡ n' → t ≡ t' → q ≡ q' → a ≡ a'
-    → ◌≡◌ {A = EntryRead} (record { length = n; taken = t; question = q; answer = a }) (record { length = n'; taken = t'; question = q'; answer = a' })
-same_entry_read n t q a = rw (n, t, q, a)
+-- the reader's answer with some numbers, and with these records where it is an entry
+abbrev pub outcome_of : Numbers → List ℕ → List ℕ → Result (Option EntryRead) Refusal
+outcome_of (refused n p) q a = Err (named n p)
+outcome_of (fault n p) q a = Err (named n p)
+outcome_of (gives []) q a = Ok None
+outcome_of (gives (n ∷ [])) q a = Ok None
+outcome_of (gives (n ∷ t ∷ vs)) q a = Ok (Some (record { length = n; taken = t; question = q; answer = a }))
 
-different : {A : Type 0} → ◌≡◌ {A = ℕ} 0 1 → A
-different z = absurd (omega arith)
+pub outcome_back : (r : Result (Option EntryRead) Refusal) → outcome_of (numbers_of r) (question_read r) (answer_read r) ≡ r
+outcome_back (Ok None) = refl
+outcome_back (Ok (Some e)) = refl
+outcome_back (Err r) = ap Err (named_back r)
 
 pub same_read : (r s : Result (Option EntryRead) Refusal) → numbers_of r ≡ numbers_of s → question_read r ≡ question_read s → answer_read r ≡ answer_read s → r ≡ s
-same_read (Ok None) (Ok None) n q a = refl
-same_read (Ok None) (Ok (Some f)) n q a = different cc
-same_read (Ok None) (Err y) n q a = different cc
-same_read (Ok (Some e)) (Ok None) n q a = different cc
-same_read (Ok (Some e)) (Ok (Some f)) n q a =
-    let count : e.length ≡ f.length = cc in
-    let bytes : e.taken ≡ f.taken = cc in
-    ap (λ (x : EntryRead). Ok (Some x)) (same_entry_read count bytes q a)
-same_read (Ok (Some e)) (Err y) n q a = different cc
-same_read (Err x) (Ok None) n q a = different cc
-same_read (Err x) (Ok (Some f)) n q a = different cc
-same_read (Err x) (Err y) n q a = ap (λ (z : Refusal). Err z) (refused_alike x y n)
+same_read r s n q a = sym (outcome_back r) ∙ rw (n, q, a) (outcome_back s)
 
 -- of the reader, by any reading of the rest of the file
 pub one_read : {x : Reading} {room : List ℕ} {r s : Result (Option EntryRead) Refusal} {room₁ room₂ : List ℕ} → ReadAs x room r room₁ → ReadAs x room s room₂
