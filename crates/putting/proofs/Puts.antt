@@ -1,10 +1,10 @@
 -- A room that is written from a place on: a part written over, and one list after the other.
-use mathlib.Core.Path.{◌≡◌, sym, ap, ◌∙◌}
-use mathlib.Core.List.{List, [], ◌∷◌, ◌++◌, append_assoc}
-use Prim.Native.Nat.{ℕ, suc, ◌+◌, ◌≤◌}
+use mathlib.Core.Path.{◌≡◌, refl, sym, ap, ◌∙◌}
+use mathlib.Core.List.{List, [], ◌∷◌, ◌++◌, append_assoc, map}
+use Prim.Native.Nat.{ℕ, zero, suc, ◌+◌, ◌≤◌, ◌<◌}
 use native.Mathlib.Omega.{arith}
 use borrow.Rule.Slice.PartMut.{put_mid}
-use lib.ListN.{length, set, take, drop, length-append}
+use lib.ListN.{length, get_or, set, take, drop, length-append}
 use lib.Seq.{sets, sets-eq, paste, drop-drop, take-length, take-append_seam}
 use Rattle.putting.specs.Put.{IsPut}
 
@@ -40,3 +40,9 @@ put_first {xs} {room} {r = r} p h =
 -- and over its own bytes anywhere
 pub put_pasted : {xs room room' : List ℕ} {at r n : ℕ} → IsPut xs room at r room' → length xs ≡ n → at + n ≤ length room → room' ≡ paste room at xs n
 put_pasted {xs} {room} {at = at} p size fits = p.leaves ∙ sets-eq xs room at (omega arith) ∙ rw (← size, take-length xs)
+
+-- a function of an entry is the entry of the function's list
+pub map_at_lem : (f : ℕ → ℕ) (xs : List ℕ) (i : ℕ) → i < length xs → f (get_or xs i 0) ≡ get_or (map f xs) i 0
+map_at_lem f [] i h = absurd (omega arith)
+map_at_lem f (x ∷ xs) zero h = refl
+map_at_lem f (x ∷ xs) (suc i) h = map_at_lem f xs i (omega arith)

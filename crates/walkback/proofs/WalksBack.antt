@@ -2,13 +2,13 @@
 use Rattle.std.specs.Prelude.{Option, Some, None, IsSome}
 use mathlib.Core.Path.{◌≡◌, refl, sym, ◌∙◌, ap, subst}
 use mathlib.Core.Logic.{◌≢◌}
-use mathlib.Core.List.{List, [], ◌∷◌, ◌++◌, append_assoc, reverse}
+use mathlib.Core.List.{List, [], ◌∷◌, ◌++◌, append_assoc, reverse, reverse-reverse}
 use Prim.Native.Nat.{ℕ, suc, ◌+◌, ◌≤◌, ◌<◌}
 use native.Mathlib.Omega.{arith}
 use native.Mathlib.Numerals.{add-one}
 use native.Mathlib.Nat.{add_comm}
-use lib.ListN.{length, get_or, set, drop, length-append, length-reverse, length-set}
-use lib.Seq.{drop-cons, set_at}
+use lib.ListN.{length, get_or, set, take, drop, length-append, length-reverse, length-set}
+use lib.Seq.{drop-cons, set_at, take-append_seam, drop-append_seam}
 use Rattle.paths.specs.Graph.{MARK}
 use Rattle.paths.specs.First.{last_step}
 use Rattle.paths.proofs.Firsts.{reverse_snoc}
@@ -122,3 +122,19 @@ walk_measured {f} {m} {s} {goal} {costs} {room} {route} {v} {l} {ds} z here e =
     let sums : length_of f m s ds ≡ surd l.p l.q = rw (← here, e) z.summed in
     let steps : length ds ≡ l.steps = ap length e ∙ length-reverse z.ds ∙ z.counted in
     rw (steps, sums) refl
+
+-- what was written backwards has room in the room
+pub back_fits : (ds room back : List ℕ) (n : ℕ) → n ≡ length ds → back ≡ reverse ds ++ drop n room → n ≤ length back
+back_fits ds room back n e w = omega (arith, ap length w, length-append (reverse ds) (drop n room), length-reverse ds)
+
+parts : (xs ys : List ℕ) (n : ℕ) → length xs ≡ n → (take n (xs ++ ys) ≡ xs) × (drop n (xs ++ ys) ≡ ys)
+parts xs ys n e = rw (← e) (take-append_seam xs ys, drop-append_seam xs ys)
+
+-- what was written backwards, turned round, is the route
+pub turned_round : (ds room back route : List ℕ) (n : ℕ) → n ≡ length ds → back ≡ reverse ds ++ drop n room
+    → route ≡ reverse (take n back) ++ drop n back → route ≡ ds ++ drop n room
+turned_round ds room back route n e w r =
+    let p = parts (reverse ds) (drop n room) n (length-reverse ds ∙ sym e) in
+    let t : take n back ≡ reverse ds = ap (take n) w ∙ p.0 in
+    let d : drop n back ≡ drop n room = ap (drop n) w ∙ p.1 in
+    r ∙ rw (t, d, reverse-reverse ds)
