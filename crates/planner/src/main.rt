@@ -2,7 +2,7 @@
 // A read or a write that fails ends it, with one line on standard error.
 #![tactic(auto)]
 
-ghost use Rattle.std.specs.Prelude.{◌≡◌, [], ◌≤◌, ◌<◌, length, take};
+ghost use Rattle.std.specs.Prelude.{◌≡◌, Some, [], ◌≤◌, ◌<◌, length, take};
 ghost use Rattle.answering.specs.Rooms.{rooms};
 ghost use Rattle.recordlayout.specs.Record.{record_size};
 ghost use Rattle.streams.specs.Streams.{TextIn};
@@ -85,6 +85,17 @@ fn answer_piece<R: Clock>(
     Turn { kept, gone, end }
 }
 
+// The last turn, whose piece has no bytes: what was kept stays, and nothing has gone out since.
+fn end_turn(kept: usize, gone: u64, end: End) -> Turn
+    ensures { result ≡ record { kept = kept; gone = gone; end = Some end } }
+{
+    Turn {
+        kept,
+        gone,
+        end: Some(end),
+    }
+}
+
 // Reads what has arrived, which may be little, and answers every whole record of it before more is asked for.
 #[tactic(auto, using(crate::proofs::Pieces::no_bytes))]
 fn take_turn<R: Clock>(
@@ -103,11 +114,7 @@ fn take_turn<R: Clock>(
 {
     let mut input = system.questions;
     match read_piece(system.rt, &mut input, buffer, kept) {
-        Ok(0) => Turn {
-            kept,
-            gone,
-            end: Some(End::Input),
-        },
+        Ok(0) => end_turn(kept, gone, End::Input),
         Ok(arrived) => answer_piece(
             system,
             f,
@@ -119,11 +126,7 @@ fn take_turn<R: Clock>(
             work,
             route,
         ),
-        Err(error) => Turn {
-            kept,
-            gone,
-            end: Some(End::Unread(error)),
-        },
+        Err(error) => end_turn(kept, gone, End::Unread(error)),
     }
 }
 

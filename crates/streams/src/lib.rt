@@ -4,7 +4,7 @@
 #![tactic(auto)]
 
 ghost use Rattle.std.specs.Prelude.{◌≡◌, ◌≤◌, ◌<◌, length, take, IfNone};
-ghost use Rattle.streams.specs.Streams.{PieceIn, TextIn};
+ghost use Rattle.streams.specs.Streams.{PieceIn, TextIn, text_at_end};
 
 use std::io;
 use std::io::{Read, Write};
@@ -42,17 +42,24 @@ pub fn read_piece<R: Read>(
     Err(put_off_too_often())
 }
 
+// The length of the text at the last piece, which had no bytes. A read that failed is no end: the text is not read then.
+fn text_at_end(piece: io::Result<usize>, have: usize) -> io::Result<usize>
+    ensures { result ≡ text_at_end piece have }
+{
+    piece?;
+    Ok(have)
+}
+
 // Reads until the file ends or the room is full, and gives the length of what was read.
 pub fn read_text<R: Read>(clock: &impl Clock, file: &mut R, room: &mut [u8]) -> io::Result<usize>
     ensures { TextIn room.new result }
 {
     let mut have = 0;
     while have < room.len() {
-        let count = read_piece(clock, file, room, have)?;
-        if count == 0 {
-            break;
+        match read_piece(clock, file, room, have) {
+            Ok(count) if 0 < count => have += count,
+            last => return text_at_end(last, have),
         }
-        have += count;
     }
     Ok(have)
 }
