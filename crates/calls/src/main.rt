@@ -31,13 +31,14 @@
 // A call from C hands on what the entry of its library answers, so that it stands here for both.
 //
 // The rooms lie on the stack. Started without an argument, the program has rooms that fit the stack which a process usually has; started with one, whatever it
-// says, it has rooms for the greatest floor, and needs a stack of more than 16 MB (tools/start asks for one).
+// says, it has rooms for the greatest floor, and needs a stack of more than 16 MB (tools/start asks for one). Each argument more has it go on once more with
+// what the input has left, in rooms of zeros.
 //
 // Each reply is written before the next call is read. An unknown `what`, a room longer than the program's, a map room that has no place for two records where
 // they go there, more given than a room's length, and an input that ends inside a call end the program.
 #![tactic(auto)]
 
-ghost use Rattle.std.specs.Prelude.{◌<◌, ◌^◌};
+ghost use Rattle.std.specs.Prelude.{◌<◌, ◌≤◌, ◌^◌, IfOk};
 
 mod replies; // replies.rt: how a reply goes out
 mod wire; // wire.rt: numbers in bytes, rooms filled, and pieces
@@ -160,14 +161,24 @@ fn read_question(input: Stdin) -> io::Result<Question> {
     })
 }
 
-fn read_room(input: Stdin) -> io::Result<Room> {
+// A room longer than the program's reads as one that more is given for than it holds, which ends the program when the room is filled.
+fn read_room(input: Stdin, most: usize) -> io::Result<Room>
+    ensures { IfOk result (λ room. room.length ≤ most) }
+{
     let mut head = [0u32; 2];
     read_numbers(input, &mut head, &mut [0u8; 8])?;
     let [length, given] = head;
-    Ok(Room {
+    let asked = Room {
         length: length as usize,
         given: given as usize,
-    })
+    };
+    if most < asked.length {
+        return Ok(Room {
+            length: 0,
+            given: 1,
+        });
+    }
+    Ok(asked)
 }
 
 // ---- answers as eight numbers
@@ -358,11 +369,11 @@ fn next_call(
 ) -> io::Result<()> {
     let input = streams.input;
     let question = read_question(input)?;
-    let map_room = read_room(input)?;
-    let costs_room = read_room(input)?;
-    let work_room = read_room(input)?;
-    let route_room = read_room(input)?;
-    let text_room = read_room(input)?;
+    let map_room = read_room(input, map.len())?;
+    let costs_room = read_room(input, costs.len())?;
+    let work_room = read_room(input, work.len())?;
+    let route_room = read_room(input, route.len())?;
+    let text_room = read_room(input, text.len())?;
     let map = filled_bytes(input, map, map_room)?;
     let costs = filled_numbers(input, costs, costs_room, wire)?;
     let work = filled_numbers(input, work, work_room, wire)?;
@@ -413,14 +424,23 @@ fn answer_in_rooms<const ROOM: usize, const WORK: usize>(streams: Streams)
     );
 }
 
+// Whether the program was started with so many words after its name, or more.
+fn has_word(rt: &impl Env, place: usize) -> bool {
+    !matches!(rt.arg(place, &mut []), Err(FillError::NotPresent))
+}
+
 fn main(rt: HostRuntime) {
     let streams = Streams {
         input: rt.stdin(),
         output: rt.stdout(),
     };
-    if matches!(rt.arg(1, &mut []), Err(FillError::NotPresent)) {
-        answer_in_rooms::<CELLS, PLACES>(streams);
-    } else {
+    if !has_word(&rt, 1) {
+        return answer_in_rooms::<CELLS, PLACES>(streams);
+    }
+    for place in 1..usize::MAX {
+        if !has_word(&rt, place) {
+            return;
+        }
         answer_in_rooms::<HALL, HALL_PLACES>(streams);
     }
 }

@@ -1,4 +1,6 @@
 // What goes over the wire: numbers of four bytes, the lowest first, and rooms that are filled from what is given.
+ghost use Rattle.std.specs.Prelude.{◌≤◌, length};
+
 use std::io;
 use std::io::{ErrorKind, Read, Stdin};
 
@@ -27,14 +29,12 @@ fn repeat<T: Copy>(room: &mut [T], given: usize) {
     }
 }
 
-// The part of a room that a call asks for, with the entries that are given, repeated. An error if the room is not so long, if more are given than the part
-// holds, and if the input ends before.
-pub(crate) fn filled_bytes(
-    mut input: Stdin,
-    room: &mut [u8],
-    asked: Room,
-) -> io::Result<&mut [u8]> {
-    let part = room.get_mut(..asked.length).ok_or(ErrorKind::InvalidInput)?;
+// The part of a room that a call asks for, with the entries that are given, repeated. An error if more are given than the part holds, and if the input ends
+// before.
+pub(crate) fn filled_bytes(mut input: Stdin, room: &mut [u8], asked: Room) -> io::Result<&mut [u8]>
+    requires { asked.length ≤ length room.old }
+{
+    let part = &mut room[..asked.length];
     let first = part.get_mut(..asked.given).ok_or(ErrorKind::InvalidInput)?;
     input.read_exact(first)?;
     repeat(part, asked.given);
@@ -60,8 +60,10 @@ pub(crate) fn filled_numbers<'a>(
     room: &'a mut [u32],
     asked: Room,
     bytes: &mut [u8],
-) -> io::Result<&'a mut [u32]> {
-    let part = room.get_mut(..asked.length).ok_or(ErrorKind::InvalidInput)?;
+) -> io::Result<&'a mut [u32]>
+    requires { asked.length ≤ length room.old }
+{
+    let part = &mut room[..asked.length];
     let first = part.get_mut(..asked.given).ok_or(ErrorKind::InvalidInput)?;
     for piece in first.chunks_mut(PIECE) {
         read_numbers(input, piece, bytes)?;
