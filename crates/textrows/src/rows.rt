@@ -18,16 +18,13 @@ fn judge_row(width: usize, at: usize, row: &[u8]) -> Result<(), Refusal>
     requires { at + length row.now < 2 ^ 64 }
     ensures { screened result ≡ judged (read_row width at row.now) }
 {
-    for x in 0..width {
-        if row.len() <= x {
-            return Err(Refusal::EndsTooSoon(at + x));
-        }
-        if byte_of(row[x]).is_none() {
+    for (x, byte) in row[..width.min(row.len())].iter().enumerate() {
+        if byte_of(*byte).is_none() {
             return Err(Refusal::NoCell(at + x));
         }
     }
     if row.len() <= width {
-        return Err(Refusal::EndsTooSoon(at + width));
+        return Err(Refusal::EndsTooSoon(at + row.len()));
     }
     if row[width] != b'\n' {
         return Err(Refusal::NoLineEnd(at + width));
