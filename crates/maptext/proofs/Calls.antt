@@ -15,10 +15,11 @@ use Rattle.floor.specs.LowestLine.{IsLowestLine}
 use Rattle.floor.specs.Numbers.{refused, gives, after_screen, written_numbers}
 use Rattle.floor.proofs.Lines.{above, lowest_line, refused_lines, by_lines}
 use Rattle.maptext.specs.declared.ReadNumbers.{ReadNumbers}
-use Rattle.std.specs.Prelude.{Ok}
+use Rattle.std.specs.Prelude.{Result, Ok}
+use Rattle.floor.specs.declared.refusals.Refusal.{Refusal}
 use Rattle.floor.specs.declared.written.WrittenNumbers.{WrittenNumbers}
 use Rattle.maptext.specs.Text.{header, text_of, write_lines, text_left, IsWritten}
-use Rattle.maptext.specs.Reading.{Reading, read, header_lines, reading_of, read_for, cells_left}
+use Rattle.maptext.specs.Reading.{Reading, read, header_lines, reading_of, read_for, numbers_of, cells_left, IsRead}
 use Rattle.maptext.specs.Faults.{IsWrong, no_cell, no_line_end, too_soon, further, IsFirstFault}
 use Rattle.maptext.specs.Calls.{read_numbers, ReadCalled, WriteCalled}
 use Rattle.maptext.proofs.Texts.{read_written}
@@ -78,6 +79,11 @@ zero_unrefused text room x e = (
     go : (y : Reading) → reading_of text room ≡ y → ((n p : ℕ) → IsFirstFault text room n p → ⊥) → (read_numbers (read_for y)).refusal ≡ 0
     go (Reading.refused n p) k none = absurd (none n p ((refused_exactly text room n p).0 k))
     go (read w h m) k none = refl
+
+-- what C gets and has in its room is what the reader answers and leaves
+pub called_read : (text room : List ℕ) (x : ReadNumbers) (room' : List ℕ) (r : Result Floor Refusal) (room'' : List ℕ) → ReadCalled text room x room'
+    → IsRead text room r room'' → (x ≡ read_numbers (numbers_of r)) × (room' ≡ room'')
+called_read text room x room' r room'' c y = (c.numbers ∙ ap read_numbers (sym y.answers), c.leaves ∙ sym y.leaves)
 
 -- no text is empty, and a refusal has the length 0
 abbrev of_length : ℕ → ℕ → ℕ → Screen
