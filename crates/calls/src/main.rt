@@ -35,7 +35,7 @@
 // what the input has left, in rooms of zeros.
 //
 // Each reply is written before the next call is read. An unknown `what`, a room longer than the program's, a map room that has no place for two records where
-// they go there, more given than a room's length, and an input that ends inside a call end the program.
+// they go there, more given than a room's length, and an input that ends inside a call end the program, unless it was started with more arguments.
 #![tactic(auto)]
 
 ghost use Rattle.std.specs.Prelude.{◌<◌, ◌≤◌, ◌^◌, IfOk};
